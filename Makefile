@@ -1,0 +1,5 @@
+# make test is the whole gate.
+.PHONY: test
+
+test:
+	@bash tests/gate.sh

@@ -1,0 +1,17 @@
+pub mod Tests
+pub mod Bounded
+pub mod Steps
+pub mod Environment
+pub mod Simulation
+pub mod Departures
+pub mod Synthesis
+pub mod Closure
+pub mod Options
+pub mod Numbering
+pub mod Decided
+pub mod Demand
+pub mod Sets
+pub mod Table
+pub mod Checks
+pub mod Verdicts
+pub mod Controller

@@ -1,0 +1,40 @@
+-- Tests joined by `||`, `&&` and `not`.
+use mathlib.Core.Logic.{_⊎_, inl, inr}
+use mathlib.Core.Bool.{Bool, true, false, not, _&&_, _||_}
+use lib.Dec.{T}
+
+pub or-cases : (a b : Bool) → T (a || b) → T a ⊎ T b
+or-cases true b t = inl tt
+or-cases false b t = inr t
+
+pub or-left : (a b : Bool) → T a → T (a || b)
+or-left true b t = tt
+or-left false b t = absurd t
+
+pub or-right : (a b : Bool) → T b → T (a || b)
+or-right true b t = tt
+or-right false b t = t
+
+pub and-left : (a b : Bool) → T (a && b) → T a
+and-left true b t = tt
+and-left false b t = t
+
+pub and-right : (a b : Bool) → T (a && b) → T b
+and-right true b t = t
+and-right false b t = absurd t
+
+pub and-both : (a b : Bool) → T a → T b → T (a && b)
+and-both true b t u = u
+and-both false b t u = t
+
+pub test : (a : Bool) → T a ⊎ T (not a)
+test true = inl tt
+test false = inr tt
+
+pub not-cases : (a : Bool) → ¬ T a → T (not a)
+not-cases true f = f tt
+not-cases false f = tt
+
+pub not-both : (a : Bool) → T (not a) → ¬ T a
+not-both true f t = f
+not-both false f t = t

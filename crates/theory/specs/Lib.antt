@@ -1,0 +1,11 @@
+pub mod Interface
+pub mod Environment
+pub mod Departures
+pub mod Bounded
+pub mod Closure
+pub mod Numbered
+pub mod Sets
+pub mod Table
+pub mod Checks
+pub mod Valid
+pub mod Demand

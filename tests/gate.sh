@@ -1,0 +1,64 @@
+#!/usr/bin/env bash
+# The whole gate. Every stage runs, whatever an earlier one said; the last line is the sum, 'N passed, M failed', and the exit status is 0
+# only if M is 0. However the script ends, it ends with such a line.
+set -u
+cd "$(dirname "$0")/.." || { echo "0 passed, 1 failed"; exit 1; }
+
+passed=0
+failed=0
+finished=no
+log=$(mktemp) || { echo "0 passed, 1 failed"; exit 1; }
+
+finish() {
+    rm -f "$log"
+    if [ "$finished" != yes ]; then
+        echo "gate: broken off"
+        failed=$((failed + 1))
+    fi
+    echo "$passed passed, $failed failed"
+    [ "$failed" -eq 0 ] && [ "$passed" -gt 0 ]
+    exit $?
+}
+trap finish EXIT
+trap 'exit 1' HUP INT TERM
+
+# stage NAME COMMAND..: a stage that passes or fails as one.
+stage() {
+    local name=$1
+    shift
+    if "$@"; then
+        passed=$((passed + 1))
+        echo "gate: $name: passed"
+    else
+        failed=$((failed + 1))
+        echo "gate: $name: FAILED"
+    fi
+}
+
+# counted NAME COMMAND..: a stage whose own last line is 'N passed, M failed'. It fails too if it has no such line, passes nothing, or has an
+# exit status that contradicts the line.
+counted() {
+    local name=$1 status line
+    shift
+    "$@" 2>&1 | tee "$log"
+    status=${PIPESTATUS[0]}
+    line=$(tail -n 1 "$log")
+    if [[ $line =~ ^([0-9]+)\ passed,\ ([0-9]+)\ failed$ ]]; then
+        local good=${BASH_REMATCH[1]} bad=${BASH_REMATCH[2]}
+        if [ "$bad" -eq 0 ] && { [ "$status" -ne 0 ] || [ "$good" -eq 0 ]; }; then
+            bad=1
+        fi
+        passed=$((passed + good))
+        failed=$((failed + bad))
+        echo "gate: $name: $good passed, $bad failed"
+    else
+        failed=$((failed + 1))
+        echo "gate: $name: FAILED, no count"
+    fi
+}
+
+stage "layout" rt fmt --check
+stage "claims" python3 tests/claims.py
+counted "proofs" rt ci
+
+finished=yes
