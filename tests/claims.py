@@ -1,7 +1,6 @@
 #!/usr/bin/env python3
-"""Holds docs/CLAIMS.md to the tree: every file and every name that it cites is there, every must-fail edit that it cites exists, and
-every edit of the tree is cited. The exit status says so."""
-import glob
+"""Holds docs/CLAIMS.md to the tree: every file and every name that it cites is there, every must-fail edit that it cites exists, every edit
+of the tree is cited, and no folder of crates/ is left out of crates.txt. The exit status says so."""
 import os
 import re
 import sys
@@ -9,10 +8,30 @@ import sys
 TOP = os.path.join(os.path.dirname(os.path.abspath(__file__)), "..")
 
 
-def declares(text, name):
-    """Whether a file of Rattle, antt or C declares the name."""
+def declares(path, text, name):
+    """Whether the file declares the name; a mention or a comment does not count."""
     word = re.escape(name)
-    return re.search(rf"(?m)(^|[\s*]){word}(\s|\(|;|$)", text) is not None
+    if path.endswith(".antt"):
+        return re.search(rf"(?m)^\s*(?:unfoldable |abbrev )*(?:pub )?(?:data |record )?{word}(?: [({{].*)? :", text) is not None
+    if path.endswith(".rt"):
+        return re.search(rf"(?m)^\s*(?:pub )?(?:extern \"C\" )?(?:fn|struct|enum|const) {word}\b", text) is not None
+    return re.search(rf"\b{word}\b", text) is not None
+
+
+def must_fail_files(faults):
+    """The edits of the listed crates; anything that rt would not try is a fault."""
+    listed = {line.split(":")[0].strip() for line in open("crates.txt", encoding="utf-8") if line.split("#")[0].strip()}
+    found = []
+    for crate in sorted(os.listdir("crates")):
+        if crate not in listed:
+            faults.append(f"crates/{crate}: not in crates.txt")
+        folder = f"crates/{crate}/must-fail"
+        for name in sorted(os.listdir(folder)) if os.path.isdir(folder) else []:
+            if name.endswith(".edit"):
+                found.append(f"{folder}/{name}")
+            else:
+                faults.append(f"{folder}/{name}: not an edit")
+    return found
 
 
 def main():
@@ -20,17 +39,17 @@ def main():
     lines = open("docs/CLAIMS.md", encoding="utf-8").read().split("\n")
     held, faults, cited = 0, [], set()
     for number, line in enumerate(lines, 1):
-        for path, names in re.findall(r"`([\w/.-]+\.\w+)`(?:: ((?:`[^`]+`(?:, )?)+))?", line):
+        for path, names in re.findall(r"`([\w/.-]+\.\w+|\.ci/run)`(?:: ((?:`[^`]+`(?:, )?)+))?", line):
             if not os.path.exists(path):
                 faults.append(f"docs/CLAIMS.md:{number}: no file {path}")
                 continue
             held += 1
             text = open(path, encoding="utf-8").read()
             for name in re.findall(r"`([^`]+)`", names):
-                if declares(text, name):
+                if declares(path, text, name):
                     held += 1
                 else:
-                    faults.append(f"docs/CLAIMS.md:{number}: {path} has no {name}")
+                    faults.append(f"docs/CLAIMS.md:{number}: {path} does not declare {name}")
         for crate, edit in re.findall(r"edit ([a-z_]+)/([a-z0-9_]+)", line):
             path = f"crates/{crate}/must-fail/{edit}.edit"
             cited.add(path)
@@ -38,7 +57,7 @@ def main():
                 held += 1
             else:
                 faults.append(f"docs/CLAIMS.md:{number}: no edit {path}")
-    for path in sorted(glob.glob("crates/*/must-fail/*.edit")):
+    for path in must_fail_files(faults):
         if path not in cited:
             faults.append(f"{path}: not cited in docs/CLAIMS.md")
     for fault in faults:

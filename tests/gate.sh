@@ -2,7 +2,8 @@
 # The whole gate. Every stage runs, whatever an earlier one said; the last line is the sum, 'N passed, M failed', and the exit status is 0
 # only if M is 0. However the script ends, it ends with such a line.
 set -u
-cd "$(dirname "$0")/.." || { echo "0 passed, 1 failed"; exit 1; }
+unset CDPATH
+cd -- "$(dirname -- "$0")/.." || { echo "0 passed, 1 failed"; exit 1; }
 
 passed=0
 failed=0
@@ -43,7 +44,7 @@ counted() {
     "$@" 2>&1 | tee "$log"
     status=${PIPESTATUS[0]}
     line=$(tail -n 1 "$log")
-    if [[ $line =~ ^([0-9]+)\ passed,\ ([0-9]+)\ failed$ ]]; then
+    if [[ $line =~ ^(0|[1-9][0-9]{0,8})\ passed,\ (0|[1-9][0-9]{0,8})\ failed$ ]]; then
         local good=${BASH_REMATCH[1]} bad=${BASH_REMATCH[2]}
         if [ "$bad" -eq 0 ] && { [ "$status" -ne 0 ] || [ "$good" -eq 0 ]; }; then
             bad=1
@@ -60,5 +61,6 @@ counted() {
 stage "layout" rt fmt --check
 stage "claims" python3 tests/claims.py
 counted "proofs" rt ci
+stage "edits" python3 tests/edits.py
 
 finished=yes

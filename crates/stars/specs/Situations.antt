@@ -4,11 +4,10 @@ use mathlib.Core.List.{List, [], _∷_, map}
 use mathlib.Core.Option.{Option, none, some}
 use Prim.Native.Nat.{ℕ, zero, suc, _+_, _*_, _/_, _%_, _^_}
 use lib.Dec.{eqb}
-use Rattle.theory.specs.declared.Checked.{Checked}
-use Rattle.theory.specs.declared.Checked.the-variants.{Accepted, Refused}
+use Rattle.theory.specs.declared.Refusal.{Refusal}
 use Rattle.theory.specs.Bounded.{tabulate}
 use Rattle.theory.specs.Table.{Table, table, Composition, automaton, composition, synthesis, controller, refinement, keptCount, stepCount, endCount}
-use Rattle.theory.specs.Checks.{first, compositionChecks, synthesisChecks, refinementChecks}
+use Rattle.theory.specs.Checks.{first, unlessRefused, compatibilityChecks, compositionChecks, synthesisChecks, refinementChecks}
 
 -- ---- tables written out
 
@@ -44,7 +43,7 @@ stepsFrom t k (suc l) = with (automaton t .next (k / 32) (k % 32)) (stepsFrom t 
 -- ---- what a call gives
 
 pub data Call : Type 0 where
-  compose make refine : Call
+  fit compose make refine : Call
 
 -- Verdict (fit, or yes), pairs, kept, rounds, steps.
 pub record Figures : Type 0 where
@@ -56,13 +55,13 @@ pub record Figures : Type 0 where
 
 pub data Outcome : Type 0 where
   refused : (number «of» : ℕ) → Outcome
+  fits : (verdict : Bool) (rounds : ℕ) → Outcome
   composed : Figures → Outcome
   made : Figures → (ends inputs outputs : ℕ) → List Step → Outcome
   refines : Bool → Outcome
 
-abbrev pub unlessRefused : Checked → Outcome → Outcome
-unlessRefused Accepted o = o
-unlessRefused (Refused r) o = refused (r .number) (r .table)
+abbrev pub turned : Refusal → Outcome
+turned r = refused (r .number) (r .table)
 
 -- The figures of a composition, whose table is t.
 abbrev pub figures : Composition → Table → Figures
@@ -76,17 +75,20 @@ figures c t = record {
 
 -- What a call gives, buffers of the right length lent.
 abbrev pub outcome : Table → Table → Call → Outcome
+outcome p q fit =
+    let c = composition p q in
+    unlessRefused (first (compatibilityChecks p q (p .header .states * q .header .states))) turned (fits (c .compatible) (c .rounds))
 outcome p q compose =
     let pairs = p .header .states * q .header .states in
     let c = composition p q in
-    unlessRefused (first (compositionChecks p q (pairs * 32) pairs)) (composed (figures c (table (c .header) (c .cells))))
+    unlessRefused (first (compositionChecks p q (pairs * 32) pairs)) turned (composed (figures c (table (c .header) (c .cells))))
 outcome p q make =
     let pairs = p .header .states * q .header .states in
     let t = controller p q in
-    unlessRefused (first (synthesisChecks p q (pairs * 32) pairs))
+    unlessRefused (first (synthesisChecks p q (pairs * 32) pairs)) turned
     (made (figures (synthesis p q) t) (endCount t) (t .header .inputs) (t .header .outputs) (stepsFrom t 0 (pairs * 32)))
 outcome p q refine =
-    unlessRefused (first (refinementChecks p q (p .header .states * q .header .states))) (refines (refinement p q .refines))
+    unlessRefused (first (refinementChecks p q (p .header .states * q .header .states))) turned (refines (refinement p q .refines))
 
 -- ---- the rows
 
@@ -148,8 +150,8 @@ figured verdict pairs kept rounds steps = record { verdict = verdict; pairs = pa
 -- Figures are: verdict, pairs, kept, rounds, steps.
 unfoldable pub situations : List Situation
 situations =
-    row ref cal (compose ∷ []) (composed (figured true 12 8 1 4) ∷ [])
-    ∷ row ref hasty (compose ∷ []) (composed (figured false 9 4 2 2) ∷ [])
+    row ref cal (fit ∷ compose ∷ []) (fits true 1 ∷ composed (figured true 12 8 1 4) ∷ [])
+    ∷ row ref hasty (fit ∷ compose ∷ []) (fits false 2 ∷ composed (figured false 9 4 2 2) ∷ [])
     -- The run: ends 9, the lists, and its six steps.
     ∷ row ref plan (make ∷ []) (
     made (figured true 15 11 1 6) 9 (set (settled ∷ start ∷ [])) (set (power ∷ read ∷ []))
@@ -164,6 +166,6 @@ situations =
     ∷ row ref ref (refine ∷ []) (refines true ∷ [])
     ∷ row again ref (refine ∷ []) (refines true ∷ [])
     ∷ row ref again (refine ∷ []) (refines false ∷ [])
-    ∷ row lone lone (compose ∷ refine ∷ []) (composed (figured true 1 1 0 0) ∷ refines true ∷ [])
-    ∷ row ref ref (compose ∷ []) (refused 7 0 ∷ [])
+    ∷ row lone lone (fit ∷ compose ∷ refine ∷ []) (fits true 0 ∷ composed (figured true 1 1 0 0) ∷ refines true ∷ [])
+    ∷ row ref ref (fit ∷ compose ∷ []) (refused 7 0 ∷ refused 7 0 ∷ [])
     ∷ []

@@ -8,7 +8,7 @@ use Prim.Native.Nat.{ℕ, _+_, _*_, _/_, _%_, _<_}
 use native.Mathlib.Omega.{arith}
 use native.Mathlib.Nat.{div-add-mod'}
 use lib.Arith.{digits-lt, digits-mod}
-use lib.Dec.{T, eqb, ltb, eqb→eq, ltb→lt, leb→le, nleb→lt, nltb→le}
+use lib.Dec.{T, eqb, ltb, eqb→eq, ltb→lt, leb→le, nleb→lt, nltb→le, T-not, not-T}
 use lib.ListN.{getD}
 use borrow.Author.Tests.{lt-ltb, eq-eqb}
 use Rattle.theory.specs.declared.Refusal.{Refusal}
@@ -16,24 +16,16 @@ use Rattle.theory.specs.declared.Checked.{Checked}
 use Rattle.theory.specs.declared.Checked.the-variants.{Accepted, Refused}
 use Rattle.theory.specs.Bounded.{any}
 use Rattle.theory.specs.Table.{Table, automaton, cellAt}
-use Rattle.theory.specs.Checks.{check1, check2, check3, check4, check5, check6}
-use Rattle.theory.specs.Checks.{Check, refuse, first, declared, tableChecks, eachTable, synthesisChecks}
+use Rattle.theory.specs.Checks.{Passes, Passed, check1, check2, check3, check4, check5, check6}
+use Rattle.theory.specs.Checks.{Passes, Passed, Check, refuse, first, declared, tableChecks, eachTable, synthesisChecks}
 use Rattle.theory.specs.Valid.{Valid}
 use Rattle.theory.specs.Demand.{Premises}
-use Rattle.theory.proofs.Tests.{or-cases, or-left, or-right, and-left, and-right, and-both, test, not-cases, not-both}
+use Rattle.theory.proofs.Tests.{or-cases, or-left, or-right, and-left, and-right, and-both, test}
 use Rattle.theory.proofs.Bounded.{any-at, at-any}
 use Rattle.theory.proofs.Table.{table-narrow}
 use Rattle.theory.proofs.Sets.{member-lt}
 
 -- ---- any list
-
-abbrev pub Passes : Check → Type 0
-Passes c = ¬ T (c .applies)
-
--- None of the list applies.
-abbrev pub Passed : List Check → Type 0
-Passed [] = Unit {0}
-Passed (c ∷ l) = Passes c × Passed l
 
 pub passed-first : (l : List Check) → first l ≡ Accepted ↔ Passed l
 unfolding first
@@ -99,16 +91,16 @@ module _ (t : Table) where
   unfolding tableChecks
   of-checks i p =
       let (c1, (c2, (c3, (c4, (c5, (c6, _)))))) = p in
-      let initial : t .header .initial < n = search (nleb→lt, not-cases) in
+      let initial : t .header .initial < n = search (nleb→lt, not-T) in
       record {
         some-state = omega arith;
-        few-states = search (nltb→le, not-cases, or-right);
+        few-states = search (nltb→le, not-T, or-right);
         initial = initial;
         disjoint = λ a h k. search (at-any, member-lt, and-both);
         size = search (eqb→eq, sure);
         sound = λ k h. elim (test (eqb (cell k) 65535)) [
           | inl e ↦ inl (eqb→eq _ _ e)
-          | inr d ↦ inr (search (nleb→lt, not-cases, at-any, and-both))
+          | inr d ↦ inr (search (nleb→lt, not-T, at-any, and-both))
         ];
         known = λ s a u h e.
             let (b, c) = stepped (ltb a 32) (ltb (cellAt t s a) n) (cellAt t s a) u e in
@@ -120,7 +112,7 @@ module _ (t : Table) where
   all-known v k l b =
       let c : cell k < n = search (ltb→lt, and-left) in
       let e : automaton t .next (k / 32) (k % 32) ≡ some (cell k) = rw (lt-ltb (k % 32) 32 (omega arith), div-add-mod' k 32, lt-ltb (cell k) n c) in
-      not-both (declared t (k % 32)) (search and-right) (v .known (k / 32) (k % 32) (cell k) (omega arith) e)
+      T-not (declared t (k % 32)) (search and-right) (v .known (k / 32) (k % 32) (cell k) (omega arith) e)
 
   to-checks : (i : ℕ) → Valid t → Passed (tableChecks i t)
   unfolding tableChecks
@@ -154,7 +146,7 @@ checks-premises p q cells flags e =
     record {
       component = component;
       specification = specification;
-      few-pairs = search (nltb→le, not-cases);
+      few-pairs = search (nltb→le, not-T);
       covered = record {
         actions = λ a h. sure (declared q a) (λ d. search (at-any, table-narrow, or-left, and-both));
         outputs = λ a h. sure (automaton q .output a) (λ d. search (at-any, member-lt, or-right, and-both));
@@ -169,6 +161,6 @@ premises-checks p q r =
   where
     covered : (a : ℕ) → a < 32 → ¬ T (declared p a && not (declared q a) || automaton p .output a && not (automaton q .output a))
     covered a l b = elim (or-cases (declared p a && not (declared q a)) (automaton p .output a && not (automaton q .output a)) b) [
-      | inl x ↦ not-both (declared q a) (search and-right) (search (r .covered .actions, and-left))
-      | inr x ↦ not-both (automaton q .output a) (search and-right) (search (r .covered .outputs, and-left))
+      | inl x ↦ T-not (declared q a) (search and-right) (search (r .covered .actions, and-left))
+      | inr x ↦ T-not (automaton q .output a) (search and-right) (search (r .covered .outputs, and-left))
     ]

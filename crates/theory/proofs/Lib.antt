@@ -1,5 +1,6 @@
 pub mod Tests
 pub mod Bounded
+pub mod Filled
 pub mod Steps
 pub mod Environment
 pub mod Simulation

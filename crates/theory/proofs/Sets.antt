@@ -15,14 +15,15 @@ use borrow.Author.Tests.{lt-ltb, eq-eqb, ne-eqb}
 use Rattle.theory.specs.Bounded.{any, digit}
 use Rattle.theory.specs.Sets.{has, difference}
 use Rattle.theory.specs.Table.{member}
+use Rattle.theory.proofs.Bounded.{any-cong, any-or}
 use Rattle.theory.proofs.Tests.{and-left}
 
 -- ---- one digit
 
-abbrev odd : ℕ → Bool
+abbrev pub odd : ℕ → Bool
 odd n = eqb (n % 2) 1
 
-low : (n : ℕ) → n % 2 ≡ digit (odd n)
+pub low : (n : ℕ) → n % 2 ≡ digit (odd n)
 low n = go (n % 2) (omega arith)
   where
     go : (d : ℕ) → d < 2 → d ≡ digit (eqb d 1)
@@ -83,7 +84,7 @@ has-lt w s a h t = elim (decLt a w) [
       absurd (rw e at t)
 ]
 
-has-suc : (s a : ℕ) → has s (suc a) ≡ has (s / 2) a
+pub has-suc : (s a : ℕ) → has s (suc a) ≡ has (s / 2) a
 has-suc s a = ap odd (sym (shr-shr s 1 a ∙ ap (λ x. s / 2 ^ x) (one-add a)))
 
 pub same-set : (w s t : ℕ) → s < 2 ^ w → t < 2 ^ w → ((a : ℕ) → a < w → has s a ≡ has t a) → s ≡ t
@@ -98,21 +99,6 @@ pub difference-lt : (w s t : ℕ) → s < 2 ^ w → difference s t < 2 ^ w
 difference-lt w s t h = xor-lt w s (bitAnd s t) h (lt-of-le-of-lt (and-le-l s t) h)
 
 -- ---- checks on two sets, as code makes them
-
-pub any-cong : (n : ℕ) (f g : ℕ → Bool) → ((i : ℕ) → i < n → f i ≡ g i) → any n f ≡ any n g
-unfolding any
-any-cong zero f g h = refl
-any-cong (suc n) f g h = ap₂ _||_ (any-cong n f g (λ i l. h i (omega arith))) (h n (omega arith))
-
-pub any-or : (n : ℕ) (f g : ℕ → Bool) → any n (λ i. f i || g i) ≡ (any n f || any n g)
-unfolding any
-any-or zero f g = refl
-any-or (suc n) f g = rw (any-or n f g) (swap (any n f) (any n g))
-  where
-    swap : (b c : Bool) → (b || c || (f n || g n)) ≡ (b || f n || (c || g n))
-    swap true c = refl
-    swap false true = sym (or-true (f n))
-    swap false false = refl
 
 -- A set has a member exactly if it is not 0.
 some-member : (w s : ℕ) → s < 2 ^ w → any w (has s) ≡ not (eqb s 0)
@@ -150,6 +136,13 @@ has-member s a h = rw (lt-ltb a 32 h)
 
 pub member-or : (s t a : ℕ) → member (bitOr s t) a ≡ (member s a || member t a)
 member-or s t a = ap (λ b. ltb a 32 && b) (has-or s t a) ∙ and-or-distrib-left (ltb a 32) (has s a) (has t a)
+
+pub member-and : (s t a : ℕ) → member (bitAnd s t) a ≡ (member s a && member t a)
+member-and s t a = ap (λ b. ltb a 32 && b) (has-and s t a) ∙ both (ltb a 32)
+  where
+    both : (b : Bool) → (b && (has s a && has t a)) ≡ (b && has s a && (b && has t a))
+    both true = refl
+    both false = refl
 
 pub member-difference : (s t a : ℕ) → member (difference s t) a ≡ (member s a && not (member t a))
 member-difference s t a = ap (λ b. ltb a 32 && b) (has-difference s t a) ∙ guarded (ltb a 32)

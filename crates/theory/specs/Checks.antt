@@ -2,8 +2,9 @@
 use mathlib.Core.Bool.{Bool, not, _&&_, _||_, cond}
 use mathlib.Core.List.{List, [], _∷_, _++_}
 use Prim.Native.Nat.{ℕ, _*_, _%_}
-use lib.Dec.{eqb, ltb, leb}
+use lib.Dec.{T, eqb, ltb, leb}
 use lib.ListN.{getD, length}
+use Rattle.theory.specs.declared.Refusal.{Refusal}
 use Rattle.theory.specs.declared.Checked.{Checked}
 use Rattle.theory.specs.declared.Checked.the-variants.{Accepted, Refused}
 use Rattle.theory.specs.Interface.{action}
@@ -24,6 +25,19 @@ refuse n i = Refused (record { number = n; table = i })
 unfoldable pub first : List Check → Checked
 first [] = Accepted
 first (c ∷ l) = cond (c .applies) (refuse (c .number) (c .table)) (first l)
+
+-- A check does not apply; none of a list does.
+abbrev pub Passes : Check → Type 0
+Passes c = ¬ T (c .applies)
+
+abbrev pub Passed : List Check → Type 0
+Passed [] = Unit {0}
+Passed (c ∷ l) = Passes c × Passed l
+
+-- What a call gives: a where no check applies, else what it makes of the refusal.
+abbrev pub unlessRefused : {A : Type 0} → Checked → (Refusal → A) → A → A
+unlessRefused Accepted f a = a
+unlessRefused (Refused r) f a = f r
 
 -- ---- one table
 

@@ -1,0 +1,132 @@
+-- The lowest member of a set by its trailing zeros, and the set without it, for any width.
+use mathlib.Core.Path.{_≡_, refl, sym, ap, ap₂, subst, _∙_}
+use mathlib.Core.Logic.{inl, inr}
+use mathlib.Core.Bool.{Bool, true, false, not, _&&_, _||_, and-true}
+use Prim.Native.Nat.{ℕ, zero, suc, _+_, _-_, _/_, _%_, _^_, _≤_, _<_}
+use native.Mathlib.Nat.{div-one, pow-suc, zero-div}
+use native.Mathlib.Decide.{ℕ-discrete}
+use native.Mathlib.Omega.{arith}
+use lib.Count.{trailingZeros, under, ones, ones-step}
+use lib.Dec.{T, eqb, eqb·suc-suc, eqb·suc-zero}
+use borrow.Author.Tests.{ne-eqb}
+use Rattle.theory.specs.Bounded.{any, count, digit}
+use Rattle.theory.specs.Sets.{has}
+use Rattle.theory.proofs.Tests.{and-left, and-right, and-both, or-cases, or-left, or-right, same-test}
+use Rattle.theory.proofs.Bounded.{any-at, at-any}
+use Rattle.theory.proofs.Sets.{low as low-digit, has-suc}
+
+-- What the trailing zeros t of a set with a member are.
+pub record Low (w s t : ℕ) : Type 0 where
+  pub below : t < w
+  pub within : 2 ^ t ≤ s
+  pub in-set : T (has s t)
+  pub least : (a : ℕ) → T (has s a) → t ≤ a
+  pub rest : (a : ℕ) → has (s - 2 ^ t) a ≡ (has s a && not (eqb a t))
+
+has-zero : (s : ℕ) → has s 0 ≡ eqb (s % 2) 1
+has-zero s = ap (λ x. eqb (x % 2) 1) (div-one s)
+
+-- A set with the lowest digit 1: its lowest member is 0.
+low-odd : (w s : ℕ) → s % 2 ≡ 1 → Low (suc w) s 0
+low-odd w s e = record {
+  below = omega arith;
+  within = omega arith;
+  in-set = rw (has-zero s, e) tt;
+  least = λ a h. omega arith;
+  rest = without;
+}
+  where
+    without : (a : ℕ) → has (s - 1) a ≡ (has s a && not (eqb a 0))
+    without zero = let z : (s - 1) % 2 ≡ 0 = omega arith in rw (has-zero (s - 1), z, has-zero s, e) refl
+    without (suc a) =
+        let z : (s - 1) / 2 ≡ s / 2 = omega arith in
+        rw (has-suc (s - 1) a, z, has-suc s a, eqb·suc-zero a) (sym (and-true (has (s / 2) a)))
+
+-- A set with the lowest digit 0: one more than the lowest member of its half.
+low-even : (w s t : ℕ) → s % 2 ≡ 0 → Low w (s / 2) t → Low (suc w) s (suc t)
+low-even w s t e k = record {
+  below = omega (arith, k .below);
+  within = omega (arith, k .within, pow-suc 2 t);
+  in-set = rw (has-suc s t) (k .in-set);
+  least = above;
+  rest = without;
+}
+  where
+    above : (a : ℕ) → T (has s a) → suc t ≤ a
+    above zero h = absurd (rw (has-zero s, e) at h)
+    above (suc a) h = omega (arith, k .least a (rw (has-suc s a) at h))
+
+    half : (s - 2 ^ suc t) / 2 ≡ s / 2 - 2 ^ t
+    half = omega (arith, k .within, pow-suc 2 t)
+
+    even : (s - 2 ^ suc t) % 2 ≡ 0
+    even = omega (arith, k .within, pow-suc 2 t)
+
+    without : (a : ℕ) → has (s - 2 ^ suc t) a ≡ (has s a && not (eqb a (suc t)))
+    without zero = rw (has-zero (s - 2 ^ suc t), even, has-zero s, e) refl
+    without (suc a) = rw (has-suc (s - 2 ^ suc t) a, half, has-suc s a, eqb·suc-suc a t) (k .rest a)
+
+pub low : (w s : ℕ) → 0 < s → s < 2 ^ w → Low w s (trailingZeros w s)
+unfolding trailingZeros
+low zero s q h = absurd (omega arith)
+low (suc w) s q h = go (s % 2) refl (λ z. low w (s / 2) z (omega (arith, pow-suc 2 w)))
+  where
+    go : (d : ℕ) → s % 2 ≡ d → (0 < s / 2 → Low w (s / 2) (trailingZeros w (s / 2))) → Low (suc w) s (under d (trailingZeros w (s / 2)))
+    go zero e k = low-even w s (trailingZeros w (s / 2)) e (k (omega arith))
+    go (suc zero) e k = low-odd w s e
+    go (suc (suc d)) e k = absurd (omega arith)
+
+-- Some member passes the test: the lowest does, or one of the rest.
+module _ (w s : ℕ) (f : ℕ → Bool) where
+  pub any-low : 0 < s → s < 2 ^ w
+      → any w (λ a. has s a && f a) ≡ (f (trailingZeros w s) || any w (λ a. has (s - 2 ^ trailingZeros w s) a && f a))
+  any-low q h = same-test to from
+    where
+      t : ℕ
+      t = trailingZeros w s
+
+      k : Low w s (trailingZeros w s)
+      k = low w s q h
+
+      to : T (any w (λ a. has s a && f a)) → T (f t || any w (λ a. has (s - 2 ^ trailingZeros w s) a && f a))
+      to u =
+          let (a, l, v) = any-at w (λ a. has s a && f a) u in
+          elim (ℕ-discrete a t) [
+            | yes e ↦ or-left (f t) _ (subst (λ x. T (f x)) e (and-right (has s a) (f a) v))
+            | no n ↦ or-right (f t) _ (at-any w (λ a. has (s - 2 ^ trailingZeros w s) a && f a) a l
+                (and-both (has (s - 2 ^ trailingZeros w s) a) (f a) (rw (k .rest a, ne-eqb a t n) (and-both (has s a) true (and-left (has s a) (f a) v) tt)) (and-right (has s a) (f a) v)))
+          ]
+
+      from : T (f t || any w (λ a. has (s - 2 ^ trailingZeros w s) a && f a)) → T (any w (λ a. has s a && f a))
+      from u = elim (or-cases (f t) _ u) [
+        | inl v ↦ at-any w (λ a. has s a && f a) t (k .below) (and-both (has s t) (f t) (k .in-set) v)
+        | inr v ↦
+            let (a, l, x) = any-at w (λ a. has (s - 2 ^ trailingZeros w s) a && f a) v in
+            at-any w (λ a. has s a && f a) a l
+            (and-both (has s a) (f a) (and-left (has s a) (not (eqb a t)) (rw (k .rest a) at (and-left (has (s - 2 ^ trailingZeros w s) a) (f a) x))) (and-right (has (s - 2 ^ trailingZeros w s) a) (f a) x))
+      ]
+
+-- The empty set has no member.
+pub has-none : (a : ℕ) → has 0 a ≡ false
+has-none a = rw (zero-div (2 ^ a))
+
+pub any-none : (w : ℕ) (f : ℕ → Bool) → any w (λ a. has 0 a && f a) ≡ false
+any-none w f = same-test (λ t. let (a, l, u) = any-at w (λ a. has 0 a && f a) t in rw (has-none a) at u) (λ t. absurd t)
+
+-- The ones of a set are as many as its members.
+count-suc : (w : ℕ) (f : ℕ → Bool) → count (suc w) f ≡ digit (f 0) + count w (λ a. f (suc a))
+unfolding count
+count-suc zero f = omega arith
+count-suc (suc w) f = omega (arith, count-suc w f)
+
+count-same : (w : ℕ) (f g : ℕ → Bool) → ((a : ℕ) → f a ≡ g a) → count w f ≡ count w g
+unfolding count
+count-same zero f g e = refl
+count-same (suc w) f g e = ap₂ _+_ (count-same w f g e) (ap digit (e w))
+
+pub ones-count : (w s : ℕ) → s < 2 ^ w → ones s ≡ count w (has s)
+unfolding count ones
+ones-count zero s h = let z : s ≡ 0 = omega arith in rw z
+ones-count (suc w) s h =
+    ones-step s ∙ ap₂ _+_ (low-digit s ∙ ap digit (sym (has-zero s))) (ones-count w (s / 2) (omega (arith, pow-suc 2 w)) ∙ count-same w (has (s / 2)) (λ a. has s (suc a)) (λ a. sym (has-suc s a)))
+    ∙ sym (count-suc w (has s))

@@ -1,0 +1,63 @@
+// Action sets held in 32 bits (document 01, "A table"): counted, and visited lowest member first.
+ghost use mathlib.Core.Path.{_≡_};
+ghost use mathlib.Core.Bool.{not, _&&_};
+ghost use Prim.Native.Nat.{ℕ, _-_, _^_};
+ghost use lib.Count.{trailingZeros};
+ghost use Rattle.theory.specs.Bounded.{any, count};
+ghost use Rattle.theory.specs.Sets.{has, difference as without};
+ghost use Rattle.theory.specs.Table.{member};
+
+// How many members the set has.
+pub fn size(s: u32) -> u32
+    ensures { λ r. ⌜ r ≡ count 32 (has s) ⌝ }
+{
+    u32::count_ones(s)
+}
+
+// Whether the action is a member.
+pub fn contains(s: u32, action: usize) -> bool
+    ensures { λ r. ⌜ r ≡ member s action ⌝ }
+{
+    if 32 <= action {
+        return false;
+    }
+    (s >> action as u32) % 2 == 1
+}
+
+// The lowest member; 32 if there is none.
+pub fn lowest(s: u32) -> u32
+    ensures { λ r. ⌜ r ≡ trailingZeros 32 s ⌝ }
+{
+    u32::trailing_zeros(s)
+}
+
+// The set without its lowest member.
+pub fn rest(s: u32) -> u32
+    ensures { λ r. ⌜ r ≡ s - 2 ^ trailingZeros 32 s ⌝ }
+{
+    if s == 0 {
+        return 0;
+    }
+    s - (1u32 << u32::trailing_zeros(s))
+}
+
+// The members of s that are not in t.
+pub fn difference(s: u32, t: u32) -> u32
+    ensures { λ r. ⌜ r ≡ without s t ⌝ }
+{
+    s ^ (s & t)
+}
+
+// Whether some action is in both sets.
+pub fn intersects(s: u32, t: u32) -> bool
+    ensures { λ r. ⌜ r ≡ any 32 (λ (a : ℕ). member s a && member t a) ⌝ }
+{
+    s & t != 0
+}
+
+// Whether every member of s is in t.
+pub fn is_subset(s: u32, t: u32) -> bool
+    ensures { λ r. ⌜ r ≡ not (any 32 (λ (a : ℕ). member s a && not (member t a))) ⌝ }
+{
+    s & t == s
+}
