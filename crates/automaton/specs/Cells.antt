@@ -1,0 +1,42 @@
+-- Cells as the code takes them: the first at fault, and what the monitor's own says.
+use mathlib.Core.Path.{_≡_}
+use mathlib.Core.Bool.{Bool, true, false, not, _&&_, cond}
+use mathlib.Core.List.{List}
+use Prim.Native.Nat.{ℕ, zero, suc, _*_, _%_, _≤_, _<_}
+use lib.Dec.{ltb}
+use lib.ListN.{getD, length}
+use Rattle.theory.specs.Bounded.{any}
+use Rattle.theory.specs.Table.{member, decode}
+use Rattle.theory.specs.Checks.{stray}
+use Rattle.automaton.specs.declared.Followed.{Followed}
+use Rattle.automaton.specs.declared.Followed.the-variants as followed
+use Rattle.automaton.specs.Replies.{moved}
+
+-- At most 4,096 rows of 32 cells, all there (checks 1 and 4).
+pub record Sized (n : ℕ) (cells : List ℕ) : Type 0 where
+  pub few : n ≤ 4096
+  pub size : length cells ≡ n * 32
+
+-- Among them the monitor's own cell (checks 11 and 12).
+pub record Placed (n : ℕ) (cells : List ℕ) (s a : ℕ) : Type 0 where
+  pub sized : Sized n cells
+  pub below : s < n
+  pub narrow : a < 32
+
+-- The least number below n that passes the test; n if none does.
+unfoldable pub least : ℕ → (ℕ → Bool) → ℕ
+least zero f = 0
+least (suc n) f = cond (any n f) (least n f) (cond (f n) n (suc n))
+
+-- A cell of n states is at fault by check 5 (false) or by check 6 (true); acts has the actions of both lists.
+abbrev pub fault : Bool → ℕ → ℕ → ℕ → ℕ → Bool
+fault false n acts cell a = stray n cell
+fault true n acts cell a = ltb cell n && not (member acts a)
+
+-- The cell at k is.
+abbrev pub faultAt : Bool → ℕ → ℕ → List ℕ → ℕ → Bool
+faultAt six n acts cells k = fault six n acts (getD cells k 65535) (k % 32)
+
+-- Check 5 of the monitor's own cell, then its move.
+abbrev pub ownReply : ℕ → ℕ → Followed
+ownReply n cell = cond (stray n cell) (followed.Refused (record { number = 5; table = 1 })) (moved (decode n cell))

@@ -1,0 +1,171 @@
+// Calls on one interface automaton (document 01: table): judging, mirroring, following; and the checks that the calls on two begin with.
+ghost use mathlib.Core.Path.{_≡_};
+ghost use mathlib.Core.Bool.{_&&_};
+ghost use Prim.Native.Nat.{ℕ, _+_, _*_};
+ghost use lib.Bits.{bitOr};
+ghost use lib.ListN.{take, getD};
+ghost use Rattle.theory.specs.Bounded.{any};
+ghost use Rattle.theory.specs.Table.{table, member, mirrorHeader};
+ghost use Rattle.theory.specs.Checks.{first, refuse as refused, tableChecks, monitorChecks};
+ghost use Rattle.automaton.specs.Replies.{mirrorReply, followReply};
+ghost use Rattle.automaton.specs.Cells.{Placed, ownReply};
+use theory::Automaton;
+use theory::Checked;
+use theory::Refusal;
+
+mod faults;
+mod kept;
+
+pub use kept::count_kept;
+
+// The mirror's numbers; its cells are the automaton's own.
+pub enum Mirrored {
+    Mirror(Automaton),
+    Refused(Refusal),
+}
+
+// The monitor's reply (document 01: the follower's): where it moved to, "not now", or a refusal.
+pub enum Followed {
+    Moved(usize),
+    NotNow,
+    Refused(Refusal),
+}
+
+// Every refusal is made here.
+fn refusal(number: u32, table: u32) -> Refusal
+    ensures { λ r. ⌜ r ≡ record { number = number; table = table } ⌝ }
+{
+    Refusal { number, table }
+}
+
+// The reply of the checks that turns a call away.
+pub fn refuse(number: u32, table: u32) -> Checked
+    ensures { λ r. ⌜ r ≡ refused number table ⌝ }
+{
+    Checked::Refused(refusal(number, table))
+}
+
+// The actions of both lists.
+fn declared(a: Automaton) -> u32
+    ensures { λ r. ⌜ r ≡ bitOr (a .inputs) (a .outputs) ⌝ }
+{
+    a.inputs | a.outputs
+}
+
+// Whether an action is in both sets: then together they have fewer members than the two counts add up to.
+fn overlap(s: u32, t: u32) -> bool
+    ensures { λ r. ⌜ r ≡ any 32 (λ (a : ℕ). member s a && member t a) ⌝ }
+{
+    sets::size(s | t) < sets::size(s) + sets::size(t)
+}
+
+// Checks 1 to 4, those that look at no cell.
+fn check_shape(a: Automaton, cells: &[u16], number: u32) -> Checked
+    ensures { λ r. ⌜ r ≡ first (take 4 (tableChecks number (table a (now (cells .entry))))) ⌝ }
+{
+    if a.states == 0 {
+        return refuse(1, number);
+    }
+    if 4096 < a.states {
+        return refuse(1, number);
+    }
+    if a.states <= a.initial {
+        return refuse(2, number);
+    }
+    if overlap(a.inputs, a.outputs) {
+        return refuse(3, number);
+    }
+    if cells.len() != a.states * 32 {
+        return refuse(4, number);
+    }
+    Checked::Accepted
+}
+
+// Checks 1 to 6 of the automaton that a refusal is to call `number`.
+pub fn check(a: Automaton, cells: &[u16], number: u32) -> Checked
+    ensures { λ r. ⌜ r ≡ first (tableChecks number (table a (now (cells .entry)))) ⌝ }
+{
+    let shape = check_shape(a, cells, number);
+    let Checked::Accepted = shape else {
+        return shape;
+    };
+    let acts = declared(a);
+    if faults::walk(false, cells, a.states, acts) < cells.len() {
+        return refuse(5, number);
+    }
+    if faults::walk(true, cells, a.states, acts) < cells.len() {
+        return refuse(6, number);
+    }
+    Checked::Accepted
+}
+
+// Judges one automaton.
+pub fn judge(a: Automaton, cells: &[u16]) -> Checked
+    ensures { λ r. ⌜ r ≡ first (tableChecks 1 (table a (now (cells .entry)))) ⌝ }
+{
+    check(a, cells, 1)
+}
+
+// The numbers with the two lists exchanged.
+fn exchange(a: Automaton) -> Automaton
+    ensures { λ r. ⌜ r ≡ mirrorHeader a ⌝ }
+{
+    Automaton {
+        states: a.states,
+        initial: a.initial,
+        inputs: a.outputs,
+        outputs: a.inputs,
+    }
+}
+
+// Exchanges the two lists.
+pub fn mirror(a: Automaton, cells: &[u16]) -> Mirrored
+    ensures { λ r. ⌜ r ≡ mirrorReply (table a (now (cells .entry))) ⌝ }
+{
+    match check(a, cells, 1) {
+        Checked::Refused(r) => Mirrored::Refused(r),
+        Checked::Accepted => Mirrored::Mirror(exchange(a)),
+    }
+}
+
+// The monitor's checks before it reads a cell: 1 to 4, 11, 12.
+fn check_place(a: Automaton, cells: &[u16], state: usize, action: usize) -> Checked
+    ensures { λ r. ⌜ r ≡ first (take 6 (monitorChecks 1 (table a (now (cells .entry))) state action)) ⌝ }
+{
+    let shape = check_shape(a, cells, 1);
+    let Checked::Accepted = shape else {
+        return shape;
+    };
+    if a.states <= state {
+        return refuse(11, 1);
+    }
+    if !sets::contains(declared(a), action) {
+        return refuse(12, 1);
+    }
+    Checked::Accepted
+}
+
+// What the monitor's own cell says: a step, none, or check 5.
+fn advance(cells: &[u16], states: usize, state: usize, action: usize) -> Followed
+    requires { ⌜ Placed states (now cells) state action ⌝ }
+    ensures { λ r. ⌜ r ≡ ownReply states (getD (now (cells .entry)) (state * 32 + action) 65535) ⌝ }
+{
+    let next = cells[state * 32 + action] as usize;
+    if next < states {
+        return Followed::Moved(next);
+    }
+    if next == 65535 {
+        return Followed::NotNow;
+    }
+    Followed::Refused(refusal(5, 1))
+}
+
+// One step of the monitor: checks 1 to 4, 11, 12, then 5 of its own cell.
+pub fn follow(a: Automaton, cells: &[u16], state: usize, action: usize) -> Followed
+    ensures { λ r. ⌜ r ≡ followReply (table a (now (cells .entry))) state action ⌝ }
+{
+    match check_place(a, cells, state, action) {
+        Checked::Refused(r) => Followed::Refused(r),
+        Checked::Accepted => advance(cells, a.states, state, action),
+    }
+}
