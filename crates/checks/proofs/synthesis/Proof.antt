@@ -1,0 +1,50 @@
+use Rattle.theory.specs.Checks.{synthesisChecks}
+use Rattle.checks.specs.Room.{sizeChecks}
+use Rattle.checks.proofs.Laws.{stopped, went-on, applied, passed, few}
+use borrow.Author.Needs.{needs}
+use Rattle.checks.proofs.synthesis.Statement.{statement}
+use Rattle.checks.proofs.synthesis.Tie as tie
+
+each-requires : tie.Need-each-requires
+each-requires c κs = search needs
+
+enum-told : tie.Need-enum-told
+enum-told c = search needs
+
+enum-told-2 : tie.Need-enum-told-2
+enum-told-2 c = search needs
+
+returns : tie.Need-returns
+unfolding synthesisChecks
+returns c = search (stopped, needs)
+
+uncovered-requires : tie.Need-uncovered-requires
+uncovered-requires c κs = search needs
+
+refuse-requires : tie.Need-refuse-requires
+refuse-requires c κs = search needs
+
+returns-2 : tie.Need-returns-2
+unfolding synthesisChecks
+returns-2 c = search (went-on, applied, needs)
+
+sizes-requires : tie.Need-sizes-requires
+sizes-requires c κs = search (few, needs)
+
+returns-3 : tie.Need-returns-3
+unfolding synthesisChecks sizeChecks
+returns-3 c = search (went-on, passed, needs)
+
+pub synthesis-spec : {M : Type 1} → statement M
+synthesis-spec =
+    tie.close
+    (tie.spec
+    each-requires
+    enum-told
+    enum-told-2
+    returns
+    uncovered-requires
+    refuse-requires
+    returns-2
+    sizes-requires
+    returns-3)

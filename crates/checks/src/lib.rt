@@ -1,0 +1,143 @@
+// The checks of the calls on two automata, in document 01's order: 1 to 6 of the first, then of the second, then what concerns both.
+ghost use mathlib.Core.Path.{_≡_};
+ghost use mathlib.Core.List.{[]};
+ghost use Prim.Native.Nat.{_*_, _≤_};
+ghost use Rattle.theory.specs.Table.{table};
+ghost use Rattle.theory.specs.Checks.{first, eachTable, check8, productChecks, compatibilityChecks, compositionChecks, refinementChecks, synthesisChecks};
+ghost use Rattle.checks.specs.Room.{Few, oddFor, sizeChecks, composableChecks};
+use theory::Automaton;
+use theory::Checked;
+
+// The lengths of a call's result buffers.
+enum Room {
+    Cells(usize),
+    Bytes(usize),
+    Both(usize, usize),
+}
+
+// 1 to 6 of each.
+fn each(a: Automaton, ca: &[u16], b: Automaton, cb: &[u16]) -> Checked
+    ensures { λ r. ⌜ r ≡ first (eachTable (table a (now (ca .entry))) (table b (now (cb .entry)))) ⌝ }
+{
+    let one = automaton::check(a, ca, 1);
+    let Checked::Accepted = one else {
+        return one;
+    };
+    automaton::check(b, cb, 2)
+}
+
+// Whether a buffer has not exactly the length needed for so many pairs.
+fn is_odd(room: Room, pairs: usize) -> bool
+    requires { ⌜ pairs ≤ 4096 ⌝ }
+    ensures { λ r. ⌜ r ≡ oddFor pairs room ⌝ }
+{
+    match room {
+        Room::Cells(cells) => cells != pairs * 32,
+        Room::Bytes(bytes) => bytes != pairs,
+        Room::Both(cells, bytes) => {
+            if cells != pairs * 32 {
+                return true;
+            }
+            bytes != pairs
+        }
+    }
+}
+
+// 9, then 10.
+fn sizes(n: usize, m: usize, room: Room) -> Checked
+    requires { ⌜ Few n m ⌝ }
+    ensures { λ r. ⌜ r ≡ first (sizeChecks (n * m) room) ⌝ }
+{
+    let pairs = n * m;
+    if 4096 < pairs {
+        return automaton::refuse(9, 0);
+    }
+    if is_odd(room, pairs) {
+        return automaton::refuse(10, 0);
+    }
+    Checked::Accepted
+}
+
+// The checks of two automata that are to be composed: 1 to 6 of each, 7, 9, 10.
+fn composable(a: Automaton, ca: &[u16], b: Automaton, cb: &[u16], room: Room) -> Checked
+    ensures { λ r. ⌜ r ≡ first (composableChecks (table a (now (ca .entry))) (table b (now (cb .entry))) room) ⌝ }
+{
+    let tables = each(a, ca, b, cb);
+    let Checked::Accepted = tables else {
+        return tables;
+    };
+    if sets::intersects(a.outputs, b.outputs) {
+        return automaton::refuse(7, 0);
+    }
+    sizes(a.states, b.states, room)
+}
+
+// The checks of product; `cells` is the length of its buffer.
+pub fn product(a: Automaton, ca: &[u16], b: Automaton, cb: &[u16], cells: usize) -> Checked
+    ensures { λ r. ⌜ r ≡ first (productChecks (table a (now (ca .entry))) (table b (now (cb .entry))) cells) ⌝ }
+{
+    composable(a, ca, b, cb, Room::Cells(cells))
+}
+
+// The checks of fit.
+pub fn compatibility(a: Automaton, ca: &[u16], b: Automaton, cb: &[u16], flags: usize) -> Checked
+    ensures { λ r. ⌜ r ≡ first (compatibilityChecks (table a (now (ca .entry))) (table b (now (cb .entry))) flags) ⌝ }
+{
+    composable(a, ca, b, cb, Room::Bytes(flags))
+}
+
+// The checks of compose.
+pub fn composition(
+    a: Automaton,
+    ca: &[u16],
+    b: Automaton,
+    cb: &[u16],
+    cells: usize,
+    flags: usize,
+) -> Checked
+    ensures { λ r. ⌜ r ≡ first (compositionChecks (table a (now (ca .entry))) (table b (now (cb .entry))) cells flags) ⌝ }
+{
+    composable(a, ca, b, cb, Room::Both(cells, flags))
+}
+
+// The checks of refine: neither 7 nor 8.
+pub fn refinement(a: Automaton, ca: &[u16], b: Automaton, cb: &[u16], marks: usize) -> Checked
+    ensures { λ r. ⌜ r ≡ first (refinementChecks (table a (now (ca .entry))) (table b (now (cb .entry))) marks) ⌝ }
+{
+    let tables = each(a, ca, b, cb);
+    let Checked::Accepted = tables else {
+        return tables;
+    };
+    sizes(a.states, b.states, Room::Bytes(marks))
+}
+
+// 8, of the lists alone: whether a module signal is not in the plan, or a module output is no plan output.
+fn uncovered(a: Automaton, b: Automaton) -> bool
+    ensures { λ r. ⌜ r ≡ check8 (table a []) (table b []) .applies ⌝ }
+{
+    if !sets::is_subset(a.inputs | a.outputs, b.inputs | b.outputs) {
+        return true;
+    }
+    !sets::is_subset(a.outputs, b.outputs)
+}
+
+// The checks of the sequencer maker, of module and plan: 8 in place of 7.
+pub fn synthesis(
+    a: Automaton,
+    ca: &[u16],
+    b: Automaton,
+    cb: &[u16],
+    cells: usize,
+    flags: usize,
+) -> Checked
+    ensures { λ r. ⌜ r ≡ first (synthesisChecks (table a (now (ca .entry))) (table b (now (cb .entry))) cells flags) ⌝ }
+{
+    let tables = each(a, ca, b, cb);
+    let Checked::Accepted = tables else {
+        return tables;
+    };
+    if uncovered(a, b) {
+        return automaton::refuse(8, 0);
+    }
+    sizes(a.states, b.states, Room::Both(cells, flags))
+}

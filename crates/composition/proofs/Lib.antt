@@ -1,0 +1,5 @@
+pub mod Laws
+pub mod Cells
+pub mod Answers
+pub mod Replies
+pub mod Meaning

@@ -1,0 +1,180 @@
+// Program test of the limits: which sizes and numbers the calls take and which they refuse, by document 01's numbers (0: accepted).
+// What it writes is held to the file stdout.
+ghost use Prim.Native.Nat.{_*_, _≤_};
+ghost use Rattle.limits.specs.Room.{Room};
+use automaton::Followed;
+use composition::Built;
+use composition::Compatibility;
+use composition::Composition;
+use libc::STDOUT_FILENO;
+use refinement::Refined;
+use theory::Automaton;
+use theory::Checked;
+
+fn say(what: &[u8]) {
+    io::write_all(STDOUT_FILENO, what);
+}
+
+fn say_number(before: &[u8], number: u64) {
+    say(before);
+    io::print_decimal(STDOUT_FILENO, number);
+    say(b"\n");
+}
+
+// A line for a call: that it was accepted, or the number of its refusal.
+fn report(call: &[u8], number: u32) {
+    say(call);
+    if number == 0 {
+        say(b": accepted\n");
+        return;
+    }
+    say_number(b": refused ", number as u64);
+}
+
+// An automaton that accepts signal 31 and sends signal 0.
+fn of_states(states: usize) -> Automaton {
+    Automaton {
+        states,
+        initial: 0,
+        inputs: 2147483648,
+        outputs: 1,
+    }
+}
+
+// Its counterpart, which sends signal 31 and accepts signal 0.
+fn counterpart(states: usize) -> Automaton {
+    Automaton {
+        states,
+        initial: 0,
+        inputs: 1,
+        outputs: 2147483648,
+    }
+}
+
+// An automaton without steps, of so many cells.
+fn judge(call: &[u8], states: usize, cells: usize)
+    requires { ⌜ cells ≤ 131104 ⌝ }
+{
+    let blank = [65535u16; 131104];
+    match automaton::judge(of_states(states), &blank[0..cells]) {
+        Checked::Accepted => report(call, 0),
+        Checked::Refused(r) => report(call, r.number),
+    }
+}
+
+// Two automata without steps, of n and m states with the right number of cells, and result buffers of so many cells or bytes.
+fn product(call: &[u8], n: usize, m: usize, cells: usize)
+    requires { ⌜ Room n m cells ⌝ }
+{
+    let one = [65535u16; 131072];
+    let two = [65535u16; 131072];
+    let mut result = [7u16; 133120];
+    match composition::product(
+        of_states(n),
+        &one[0..n * 32],
+        counterpart(m),
+        &two[0..m * 32],
+        &mut result[0..cells],
+    ) {
+        Built::Product(_) => report(call, 0),
+        Built::Refused(r) => report(call, r.number),
+    }
+}
+
+fn fit(call: &[u8], n: usize, m: usize, bytes: usize)
+    requires { ⌜ Room n m bytes ⌝ }
+{
+    let one = [65535u16; 131072];
+    let two = [65535u16; 131072];
+    let mut flags = [7u8; 133120];
+    match composition::compatible(
+        of_states(n),
+        &one[0..n * 32],
+        counterpart(m),
+        &two[0..m * 32],
+        &mut flags[0..bytes],
+    ) {
+        Compatibility::Decided { .. } => report(call, 0),
+        Compatibility::Refused(r) => report(call, r.number),
+    }
+}
+
+fn compose(call: &[u8], n: usize, m: usize, bytes: usize)
+    requires { ⌜ Room n m (bytes * 32) ⌝ }
+{
+    let one = [65535u16; 131072];
+    let two = [65535u16; 131072];
+    let mut result = [7u16; 133120];
+    let mut flags = [7u8; 4160];
+    match composition::compose(
+        of_states(n),
+        &one[0..n * 32],
+        counterpart(m),
+        &two[0..m * 32],
+        &mut result[0..bytes * 32],
+        &mut flags[0..bytes],
+    ) {
+        Composition::Decided { .. } => report(call, 0),
+        Composition::Refused(r) => report(call, r.number),
+    }
+}
+
+fn refine(call: &[u8], n: usize, m: usize, bytes: usize)
+    requires { ⌜ Room n m bytes ⌝ }
+{
+    let one = [65535u16; 131072];
+    let two = [65535u16; 131072];
+    let mut marks = [7u8; 133120];
+    match refinement::refine(
+        of_states(n),
+        &one[0..n * 32],
+        of_states(m),
+        &two[0..m * 32],
+        &mut marks[0..bytes],
+    ) {
+        Refined::Decided(_) => report(call, 0),
+        Refined::Refused(r) => report(call, r.number),
+    }
+}
+
+// Follows a signal from state 0, at which signal 31 leads to state 1.
+fn follow(call: &[u8], signal: usize) {
+    let mut cells = [65535u16; 64];
+    cells[31] = 1;
+    match automaton::follow(of_states(2), &cells, 0, signal) {
+        Followed::Moved(to) => {
+            say(call);
+            say_number(b": moved to ", to as u64);
+        }
+        Followed::NotNow => {
+            say(call);
+            say(b": not now\n");
+        }
+        Followed::Refused(r) => report(call, r.number),
+    }
+}
+
+fn main() {
+    judge(b"judge 4096 states", 4096, 131072);
+    judge(b"judge 4097 states", 4097, 131104);
+    judge(b"judge 2^59 + 1 states, 32 cells", 576460752303423489, 32);
+    judge(b"judge 2^64 - 1 states, no cell", 18446744073709551615, 0);
+    product(b"product 64 by 64", 64, 64, 131072);
+    product(b"product 64 by 65", 64, 65, 133120);
+    product(b"product 64 by 64, a cell over", 64, 64, 131073);
+    fit(b"fit 64 by 64", 64, 64, 4096);
+    fit(b"fit 64 by 65", 64, 65, 4160);
+    fit(b"fit 4096 by 1", 4096, 1, 4096);
+    fit(b"fit 4096 by 2", 4096, 2, 8192);
+    fit(b"fit 64 by 64, a flag short", 64, 64, 4095);
+    compose(b"compose 64 by 64", 64, 64, 4096);
+    compose(b"compose 64 by 65", 64, 65, 4160);
+    refine(b"refine 64 by 64", 64, 64, 4096);
+    refine(b"refine 64 by 65", 64, 65, 4160);
+    refine(b"refine 64 by 64, a mark over", 64, 64, 4097);
+    follow(b"follow signal 31", 31);
+    follow(b"follow signal 0", 0);
+    follow(b"follow signal 30, not declared", 30);
+    follow(b"follow signal 32", 32);
+    follow(b"follow signal 2^64 - 1", 18446744073709551615);
+}

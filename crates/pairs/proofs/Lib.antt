@@ -1,0 +1,5 @@
+pub mod Laws
+pub mod Bytes
+pub mod Replies
+pub mod Codes
+pub mod Answers
