@@ -1,6 +1,8 @@
 // Program test of the limits: which sizes and numbers the calls take and which they refuse, by document 01's numbers (0: accepted).
 // What it writes is held to the file stdout.
+ghost use mathlib.Core.Path.{_≡_};
 ghost use Prim.Native.Nat.{_*_, _≤_};
+ghost use lib.ListN.{length};
 ghost use Rattle.limits.specs.Room.{Room};
 use automaton::Followed;
 use composition::Built;
@@ -137,6 +139,79 @@ fn refine(call: &[u8], n: usize, m: usize, bytes: usize)
     }
 }
 
+// Writes 4,096 states in a row by signal 0; the last has a step by signal 1 as well.
+fn chain(cells: &mut [u16])
+    requires { ⌜ length (now cells) ≡ 131072 ⌝ }
+{
+    for k in 0..4095 {
+        cells[k * 32] = (k + 1) as u16;
+    }
+    cells[131041] = 0;
+}
+
+// A verdict, and how many bytes are 1.
+fn verdict(call: &[u8], yes: bool, bytes: &[u8]) {
+    say(call);
+    if yes {
+        say(b": yes");
+    } else {
+        say(b": no");
+    }
+    say_number(b", kept ", automaton::count_kept(bytes) as u64);
+}
+
+// The deepest search: the chain sends signal 0 on and on, and at its end signal 1, which its partner declares and never takes.
+fn fit_chain() {
+    let mut one = [65535u16; 131072];
+    let two = [65535u16; 32];
+    let mut flags = [7u8; 4096];
+    chain(&mut one);
+    let sender = Automaton {
+        states: 4096,
+        initial: 0,
+        inputs: 0,
+        outputs: 3,
+    };
+    let taker = Automaton {
+        states: 1,
+        initial: 0,
+        inputs: 2,
+        outputs: 0,
+    };
+    match composition::compatible(sender, &one, taker, &two, &mut flags) {
+        Compatibility::Decided { compatible, rounds } => {
+            verdict(b"fit a chain", compatible, &flags);
+            say_number(b"fit a chain: rounds ", rounds as u64);
+        }
+        Compatibility::Refused(r) => report(b"fit a chain", r.number),
+    }
+}
+
+// The same for refinement: the partner may send signal 0 for ever and signal 1 never.
+fn refine_chain() {
+    let mut one = [65535u16; 131072];
+    let mut two = [65535u16; 32];
+    let mut marks = [7u8; 4096];
+    chain(&mut one);
+    two[0] = 0;
+    let sender = Automaton {
+        states: 4096,
+        initial: 0,
+        inputs: 0,
+        outputs: 3,
+    };
+    let pattern = Automaton {
+        states: 1,
+        initial: 0,
+        inputs: 0,
+        outputs: 3,
+    };
+    match refinement::refine(sender, &one, pattern, &two, &mut marks) {
+        Refined::Decided(yes) => verdict(b"refine a chain", yes, &marks),
+        Refined::Refused(r) => report(b"refine a chain", r.number),
+    }
+}
+
 // Follows a signal from state 0, at which signal 31 leads to state 1.
 fn follow(call: &[u8], signal: usize) {
     let mut cells = [65535u16; 64];
@@ -172,6 +247,8 @@ fn main() {
     refine(b"refine 64 by 64", 64, 64, 4096);
     refine(b"refine 64 by 65", 64, 65, 4160);
     refine(b"refine 64 by 64, a mark over", 64, 64, 4097);
+    fit_chain();
+    refine_chain();
     follow(b"follow signal 31", 31);
     follow(b"follow signal 0", 0);
     follow(b"follow signal 30, not declared", 30);

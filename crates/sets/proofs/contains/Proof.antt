@@ -3,19 +3,15 @@ use borrow.Author.Tests.{lt-ltb, le-ltb}
 use Rattle.sets.proofs.contains.Statement.{statement}
 use Rattle.sets.proofs.contains.Tie as tie
 
--- src/lib.rt:22:9
 returns : tie.Need-returns
 returns c = rw (le-ltb _ _ (c .if1 .taken))
 
--- src/lib.rt:24:11
 cast-result : tie.Need-cast-result
 cast-result c = search needs
 
--- src/lib.rt:24:6
 shr-result : tie.Need-shr-result
 shr-result c = search needs
 
--- src/lib.rt:18:1
 returns-2 : tie.Need-returns-2
 returns-2 c = rw (lt-ltb _ _ (c .if1 .left))
 

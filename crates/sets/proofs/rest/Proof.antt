@@ -14,19 +14,15 @@ at c = low 32 (c .before .args .s) (omega arith) (c .before .fits .s .fits)
 one : (c : tie.Else1) → (1 * 2 ^ trailingZeros 32 (c .before .args .s)) % 2 ^ 32 ≡ 2 ^ trailingZeros 32 (c .before .args .s)
 one c = rw one-mul (mod-eq-of-lt (omega (arith, at c .within, c .before .fits .s .fits)))
 
--- src/lib.rt:39:9
 returns : tie.Need-returns
 returns c = search needs
 
--- src/lib.rt:41:10
 shl-result : tie.Need-shl-result
 shl-result c = at c .below
 
--- src/lib.rt:41:5
 sub-result : tie.Need-sub-result
 sub-result c = rw (one c) (at c .within)
 
--- src/lib.rt:35:1
 returns-2 : tie.Need-returns-2
 returns-2 c = rw (one c) refl
 
