@@ -110,6 +110,14 @@ module _ (w s : ℕ) (f : ℕ → Bool) where
 pub has-none : (a : ℕ) → has 0 a ≡ false
 has-none a = rw (zero-div (2 ^ a))
 
+-- A power of 2 has one.
+pub has-power : (s a : ℕ) → has (2 ^ s) a ≡ eqb a s
+has-power zero zero = refl
+has-power zero (suc a) = has-suc 1 a ∙ has-none a ∙ sym (eqb·suc-zero a)
+has-power (suc s) zero = rw (div-one (2 ^ suc s), ne-eqb 0 (suc s) (λ e. omega arith)) (ap (λ x. eqb x 1) (let z : 2 ^ suc s % 2 ≡ 0 = omega (arith, pow-suc 2 s) in z))
+has-power (suc s) (suc a) =
+    has-suc (2 ^ suc s) a ∙ ap (λ x. has x a) (let z : 2 ^ suc s / 2 ≡ 2 ^ s = omega (arith, pow-suc 2 s) in z) ∙ has-power s a ∙ sym (eqb·suc-suc a s)
+
 pub any-none : (w : ℕ) (f : ℕ → Bool) → any w (λ a. has 0 a && f a) ≡ false
 any-none w f = same-test (λ t. let (a, l, u) = any-at w (λ a. has 0 a && f a) t in rw (has-none a) at u) (λ t. absurd t)
 

@@ -1,8 +1,10 @@
 // Action sets held in 32 bits (document 01, "A table"): counted, and visited lowest member first.
 ghost use mathlib.Core.Path.{_≡_};
-ghost use mathlib.Core.Bool.{not, _&&_};
+ghost use mathlib.Core.Bool.{not, _&&_, cond};
 ghost use Prim.Native.Nat.{ℕ, _-_, _^_};
+ghost use lib.Bits.{bitOr};
 ghost use lib.Count.{trailingZeros};
+ghost use lib.Dec.{ltb};
 ghost use Rattle.theory.specs.Bounded.{any, count};
 ghost use Rattle.theory.specs.Sets.{has, difference as without};
 ghost use Rattle.theory.specs.Table.{member};
@@ -22,6 +24,16 @@ pub fn contains(s: u32, action: usize) -> bool
         return false;
     }
     (s >> action as u32) % 2 == 1
+}
+
+// The set with the action; an action from 32 up is no member of any set.
+pub fn insert(s: u32, action: usize) -> u32
+    ensures { λ r. ⌜ r ≡ cond (ltb action 32) (bitOr s (2 ^ action)) s ⌝ }
+{
+    if 32 <= action {
+        return s;
+    }
+    s | (1u32 << action as u32)
 }
 
 // The lowest member; 32 if there is none.
