@@ -1,18 +1,14 @@
 -- The lowest member of a set by its trailing zeros, and the set without it, for any width.
-use mathlib.Core.Path.{_≡_, refl, sym, ap, ap₂, subst, _∙_}
-use mathlib.Core.Logic.{inl, inr}
-use mathlib.Core.Bool.{Bool, true, false, not, _&&_, _||_, and-true}
+use mathlib.Core.Path.{_≡_, refl, sym, ap, ap₂, _∙_}
+use mathlib.Core.Bool.{Bool, false, not, _&&_, and-true}
 use Prim.Native.Nat.{ℕ, zero, suc, _+_, _-_, _/_, _%_, _^_, _≤_, _<_}
 use native.Mathlib.Nat.{div-one, pow-suc, zero-div}
-use native.Mathlib.Decide.{ℕ-discrete}
 use native.Mathlib.Omega.{arith}
 use lib.Count.{trailingZeros, under, ones, ones-step}
 use lib.Dec.{T, eqb, eqb·suc-suc, eqb·suc-zero}
 use borrow.Author.Tests.{ne-eqb}
-use Rattle.theory.specs.Bounded.{any, count, digit}
+use Rattle.theory.specs.Bounded.{count, digit}
 use Rattle.theory.specs.Sets.{has}
-use Rattle.theory.proofs.Tests.{and-left, and-right, and-both, or-cases, or-left, or-right, same-test}
-use Rattle.theory.proofs.Bounded.{any-at, at-any}
 use Rattle.theory.proofs.Sets.{low as low-digit, has-suc}
 
 -- What the trailing zeros t of a set with a member are.
@@ -76,36 +72,6 @@ low (suc w) s q h = go (s % 2) refl (λ z. low w (s / 2) z (omega (arith, pow-su
     go (suc zero) e k = low-odd w s e
     go (suc (suc d)) e k = absurd (omega arith)
 
--- Some member passes the test: the lowest does, or one of the rest.
-module _ (w s : ℕ) (f : ℕ → Bool) where
-  pub any-low : 0 < s → s < 2 ^ w
-      → any w (λ a. has s a && f a) ≡ (f (trailingZeros w s) || any w (λ a. has (s - 2 ^ trailingZeros w s) a && f a))
-  any-low q h = same-test to from
-    where
-      t : ℕ
-      t = trailingZeros w s
-
-      k : Low w s (trailingZeros w s)
-      k = low w s q h
-
-      to : T (any w (λ a. has s a && f a)) → T (f t || any w (λ a. has (s - 2 ^ trailingZeros w s) a && f a))
-      to u =
-          let (a, l, v) = any-at w (λ a. has s a && f a) u in
-          elim (ℕ-discrete a t) [
-            | yes e ↦ or-left (f t) _ (subst (λ x. T (f x)) e (and-right (has s a) (f a) v))
-            | no n ↦ or-right (f t) _ (at-any w (λ a. has (s - 2 ^ trailingZeros w s) a && f a) a l
-                (and-both (has (s - 2 ^ trailingZeros w s) a) (f a) (rw (k .rest a, ne-eqb a t n) (and-both (has s a) true (and-left (has s a) (f a) v) tt)) (and-right (has s a) (f a) v)))
-          ]
-
-      from : T (f t || any w (λ a. has (s - 2 ^ trailingZeros w s) a && f a)) → T (any w (λ a. has s a && f a))
-      from u = elim (or-cases (f t) _ u) [
-        | inl v ↦ at-any w (λ a. has s a && f a) t (k .below) (and-both (has s t) (f t) (k .in-set) v)
-        | inr v ↦
-            let (a, l, x) = any-at w (λ a. has (s - 2 ^ trailingZeros w s) a && f a) v in
-            at-any w (λ a. has s a && f a) a l
-            (and-both (has s a) (f a) (and-left (has s a) (not (eqb a t)) (rw (k .rest a) at (and-left (has (s - 2 ^ trailingZeros w s) a) (f a) x))) (and-right (has (s - 2 ^ trailingZeros w s) a) (f a) x))
-      ]
-
 -- The empty set has no member.
 pub has-none : (a : ℕ) → has 0 a ≡ false
 has-none a = rw (zero-div (2 ^ a))
@@ -117,9 +83,6 @@ has-power zero (suc a) = has-suc 1 a ∙ has-none a ∙ sym (eqb·suc-zero a)
 has-power (suc s) zero = rw (div-one (2 ^ suc s), ne-eqb 0 (suc s) (λ e. omega arith)) (ap (λ x. eqb x 1) (let z : 2 ^ suc s % 2 ≡ 0 = omega (arith, pow-suc 2 s) in z))
 has-power (suc s) (suc a) =
     has-suc (2 ^ suc s) a ∙ ap (λ x. has x a) (let z : 2 ^ suc s / 2 ≡ 2 ^ s = omega (arith, pow-suc 2 s) in z) ∙ has-power s a ∙ sym (eqb·suc-suc a s)
-
-pub any-none : (w : ℕ) (f : ℕ → Bool) → any w (λ a. has 0 a && f a) ≡ false
-any-none w f = same-test (λ t. let (a, l, u) = any-at w (λ a. has 0 a && f a) t in rw (has-none a) at u) (λ t. absurd t)
 
 -- The ones of a set are as many as its members.
 count-suc : (w : ℕ) (f : ℕ → Bool) → count (suc w) f ≡ digit (f 0) + count w (λ a. f (suc a))
