@@ -5,7 +5,7 @@ use mathlib.Core.List.{List}
 use Prim.Native.Nat.{ℕ, _*_, _%_, _≤_, _<_}
 use lib.Bits.{bitOr}
 use lib.Dec.{eqb, ltb, eqb→eq, nltb→le, not-T}
-use lib.ListN.{getD, length, take, drop, take-append-drop}
+use lib.ListN.{getD, length, take, drop, take-append-drop, length-replicate}
 use borrow.Author.Tests.{eq-eqb, ne-eqb, lt-ltb, le-ltb, le-leb, lt-leb}
 use Rattle.theory.specs.declared.Automaton.{Automaton}
 use Rattle.theory.specs.declared.Refusal.{Refusal}
@@ -18,7 +18,7 @@ use Rattle.theory.proofs.Tests.{or-right}
 use Rattle.theory.proofs.Bounded.{any-cong}
 use Rattle.theory.proofs.Checks.{orElse, first-append, passed-first}
 use Rattle.theory.proofs.Sets.{member-or}
-use Rattle.automaton.specs.Cells.{Sized, least, faultAt}
+use Rattle.automaton.specs.Cells.{Sized, stepless, least, faultAt}
 use Rattle.automaton.proofs.Least.{least-any}
 
 -- ---- the first m checks of a list, then the others
@@ -33,110 +33,129 @@ module _ (m : ℕ) (l : List Check) (k : Checked) (first-part : k ≡ first (tak
   pub part-accepted : k ≡ Accepted → first l ≡ first (drop m l)
   part-accepted e = in-parts ∙ rw e
 
-module _ (i : ℕ) (a : Automaton) (cells : List ℕ) where
-  abbrev t : Table
-  t = table a cells
-
+module _ (i : ℕ) (a : Automaton) where
   abbrev n : ℕ
   n = a .states
 
-  -- ---- check_shape: each law has the tests that failed before its own
+  module _ (count : ℕ) where
+    abbrev bare : Table
+    bare = stepless a count
 
-  pub shape-1 : (k : Checked) → n ≡ 0 → k ≡ refuse 1 i → k ≡ first (take 4 (tableChecks i t))
-  unfolding first tableChecks
-  shape-1 k h e = rw (e, eq-eqb n 0 h)
+    many : length (bare .cells) ≡ count
+    many = length-replicate {A = ℕ} count 65535
 
-  module _ (some : n ≡ 0 → ⊥) where
-    pub shape-1-many : (k : Checked) → 4096 < n → k ≡ refuse 1 i → k ≡ first (take 4 (tableChecks i t))
+    -- ---- check_shape: each law has the tests that failed before its own
+
+    pub shape-1 : (k : Checked) → n ≡ 0 → k ≡ refuse 1 i → k ≡ first (take 4 (tableChecks i bare))
     unfolding first tableChecks
-    shape-1-many k h e = rw (e, ne-eqb n 0 some, lt-ltb 4096 n h)
+    shape-1 k h e = rw (e, eq-eqb n 0 h)
 
-    module _ (few : n ≤ 4096) where
-      pub shape-2 : (k : Checked) → n ≤ a .initial → k ≡ refuse 2 i → k ≡ first (take 4 (tableChecks i t))
+    module _ (some : n ≡ 0 → ⊥) where
+      pub shape-1-many : (k : Checked) → 4096 < n → k ≡ refuse 1 i → k ≡ first (take 4 (tableChecks i bare))
       unfolding first tableChecks
-      shape-2 k h e = rw (e, ne-eqb n 0 some, le-ltb 4096 n few, le-leb n (a .initial) h)
+      shape-1-many k h e = rw (e, ne-eqb n 0 some, lt-ltb 4096 n h)
 
-      module _ (starts : a .initial < n) (b : Bool) (shared : b ≡ any 32 (λ x. member (a .inputs) x && member (a .outputs) x)) where
-        pub shape-3 : (k : Checked) → b ≡ true → k ≡ refuse 3 i → k ≡ first (take 4 (tableChecks i t))
+      module _ (few : n ≤ 4096) where
+        pub shape-2 : (k : Checked) → n ≤ a .initial → k ≡ refuse 2 i → k ≡ first (take 4 (tableChecks i bare))
         unfolding first tableChecks
-        shape-3 k h e = rw (e, ne-eqb n 0 some, le-ltb 4096 n few, lt-leb n (a .initial) starts, ← shared, h)
+        shape-2 k h e = rw (e, ne-eqb n 0 some, le-ltb 4096 n few, le-leb n (a .initial) h)
 
-        module _ (disjoint : b ≡ false) where
-          pub shape-4 : (k : Checked) → (length cells ≡ n * 32 → ⊥) → k ≡ refuse 4 i → k ≡ first (take 4 (tableChecks i t))
+        module _ (starts : a .initial < n) (b : Bool) (shared : b ≡ any 32 (λ x. member (a .inputs) x && member (a .outputs) x)) where
+          pub shape-3 : (k : Checked) → b ≡ true → k ≡ refuse 3 i → k ≡ first (take 4 (tableChecks i bare))
           unfolding first tableChecks
-          shape-4 k h e =
-              rw (e, ne-eqb n 0 some, le-ltb 4096 n few, lt-leb n (a .initial) starts, ← shared, disjoint, ne-eqb (length cells) (n * 32) h)
+          shape-3 k h e = rw (e, ne-eqb n 0 some, le-ltb 4096 n few, lt-leb n (a .initial) starts, ← shared, h)
 
-          pub shape-ok : length cells ≡ n * 32 → Accepted ≡ first (take 4 (tableChecks i t))
-          unfolding first tableChecks
-          shape-ok h =
-              rw (ne-eqb n 0 some, le-ltb 4096 n few, lt-leb n (a .initial) starts, ← shared, disjoint, eq-eqb (length cells) (n * 32) h)
+          module _ (disjoint : b ≡ false) where
+            pub shape-4 : (k : Checked) → (count ≡ n * 32 → ⊥) → k ≡ refuse 4 i → k ≡ first (take 4 (tableChecks i bare))
+            unfolding first tableChecks
+            shape-4 k h e =
+                rw (e, ne-eqb n 0 some, le-ltb 4096 n few, lt-leb n (a .initial) starts, ← shared, disjoint, many, ne-eqb count (n * 32) h)
+
+            pub shape-ok : count ≡ n * 32 → Accepted ≡ first (take 4 (tableChecks i bare))
+            unfolding first tableChecks
+            shape-ok h =
+                rw (ne-eqb n 0 some, le-ltb 4096 n few, lt-leb n (a .initial) starts, ← shared, disjoint, many, eq-eqb count (n * 32) h)
+
+    -- ---- check_place: 11 and 12 after the same four
+
+    -- The actions of both lists, as one set.
+    union : (d x : ℕ) → d ≡ bitOr (a .inputs) (a .outputs) → member d x ≡ declared bare x
+    union d x e = rw e (member-or (a .inputs) (a .outputs) x)
+
+    module _ (s x : ℕ) where
+      abbrev place : List Check
+      place = take 6 (monitorChecks i bare s x)
+
+      module _ (k : Checked) (shape : k ≡ first (take 4 (tableChecks i bare))) where
+        pub place-shape : (r : Refusal) → k ≡ Refused r → k ≡ first (take 6 (monitorChecks i bare s x))
+        unfolding tableChecks monitorChecks
+        place-shape r e = part-refused 4 place k shape r e
+
+        module _ (fine : k ≡ Accepted) where
+          own : first (take 6 (monitorChecks i bare s x)) ≡ first (drop 4 (take 6 (monitorChecks i bare s x)))
+          unfolding tableChecks monitorChecks
+          own = part-accepted 4 place k shape fine
+
+          pub place-11 : (y : Checked) → n ≤ s → y ≡ refuse 11 i → y ≡ first (take 6 (monitorChecks i bare s x))
+          unfolding first monitorChecks
+          place-11 y h e = e ∙ sym (own ∙ rw (le-leb n s h))
+
+          module _ (below : s < n) (d : ℕ) (lists : d ≡ bitOr (a .inputs) (a .outputs)) (b : Bool) (known : b ≡ member d x) where
+            pub place-12 : (y : Checked) → not b ≡ true → y ≡ refuse 12 i → y ≡ first (take 6 (monitorChecks i bare s x))
+            unfolding first monitorChecks
+            place-12 y h e = e ∙ sym (own ∙ rw (lt-leb n s below, ← union d x lists, ← known, h))
+
+            pub place-ok : not b ≡ false → Accepted ≡ first (take 6 (monitorChecks i bare s x))
+            unfolding first monitorChecks
+            place-ok h = sym (own ∙ rw (lt-leb n s below, ← union d x lists, ← known, h))
 
   -- ---- check
 
-  -- The actions of both lists, as one set.
-  union : (d x : ℕ) → d ≡ bitOr (a .inputs) (a .outputs) → member d x ≡ declared t x
-  union d x e = rw e (member-or (a .inputs) (a .outputs) x)
+  module _ (cells : List ℕ) where
+    abbrev t : Table
+    t = table a cells
 
-  module _ (k : Checked) (shape : k ≡ first (take 4 (tableChecks i t))) (fine : k ≡ Accepted) where
-    pub sized : Sized n cells
+    pub same-shape : take 4 (tableChecks i (stepless a (length cells))) ≡ take 4 (tableChecks i t)
     unfolding tableChecks
-    sized =
-        let (c1, (c2, (c3, (c4, _)))) = passed-first (take 4 (tableChecks i t)) .0 (sym shape ∙ fine) in
-        record {
-          few = search (nltb→le, not-T, or-right);
-          size = eqb→eq (length cells) (n * 32) (rw Bool·not-not at (not-T (not (eqb (length cells) (n * 32))) c4));
-        }
+    same-shape = rw (length-replicate {A = ℕ} (length cells) 65535)
 
-    walked : (six : Bool) (d v : ℕ) → v ≡ least (n * 32) (faultAt six n d cells)
-        → any (n * 32) (faultAt six n d cells) ≡ ltb v (length cells)
-    walked six d v e = rw (e, sized .size) (sym (least-any (faultAt six n d cells) (n * 32)))
+    module _ (k : Checked) (shape-of : k ≡ first (take 4 (tableChecks i (stepless a (length cells))))) where
+      shape : k ≡ first (take 4 (tableChecks i t))
+      shape = shape-of ∙ ap first same-shape
 
-    module _ (d v : ℕ) (five : v ≡ least (n * 32) (faultAt false n d cells)) where
-      pub check-5 : (x : Checked) → v < length cells → x ≡ refuse 5 i → x ≡ first (tableChecks i t)
-      unfolding first tableChecks
-      check-5 x h e = e ∙ sym (part-accepted 4 (tableChecks i t) k shape fine ∙ rw (walked false d v five, lt-ltb v (length cells) h))
-
-      module _ (sound : length cells ≤ v) (lists : d ≡ bitOr (a .inputs) (a .outputs)) (w : ℕ)
-          (six : w ≡ least (n * 32) (faultAt true n d cells)) where
-        undeclared : any (n * 32) (λ k. ltb (getD cells k 65535) n && not (declared t (k % 32))) ≡ ltb w (length cells)
-        undeclared = any-cong (n * 32) _ (faultAt true n d cells) (λ k l. rw (union d (k % 32) lists)) ∙ walked true d w six
-
-        rest : first (tableChecks i t) ≡ cond (ltb w (length cells)) (refuse 6 i) Accepted
-        unfolding first tableChecks
-        rest = part-accepted 4 (tableChecks i t) k shape fine ∙ rw (walked false d v five, le-ltb v (length cells) sound, undeclared)
-
-        pub check-6 : (x : Checked) → w < length cells → x ≡ refuse 6 i → x ≡ first (tableChecks i t)
-        check-6 x h e = e ∙ sym (rest ∙ rw (lt-ltb w (length cells) h))
-
-        pub check-ok : length cells ≤ w → Accepted ≡ first (tableChecks i t)
-        check-ok h = sym (rest ∙ rw (le-ltb w (length cells) h))
-
-  -- ---- check_place: 11 and 12 after the same four
-
-  module _ (s x : ℕ) where
-    abbrev place : List Check
-    place = take 6 (monitorChecks i t s x)
-
-    module _ (k : Checked) (shape : k ≡ first (take 4 (tableChecks i t))) where
-      pub place-shape : (r : Refusal) → k ≡ Refused r → k ≡ first (take 6 (monitorChecks i t s x))
-      unfolding tableChecks monitorChecks
-      place-shape r e = part-refused 4 place k shape r e
+      pub check-shape : (r : Refusal) → k ≡ Refused r → k ≡ first (tableChecks i t)
+      check-shape r e = part-refused 4 (tableChecks i t) k shape r e
 
       module _ (fine : k ≡ Accepted) where
-        own : first (take 6 (monitorChecks i t s x)) ≡ first (drop 4 (take 6 (monitorChecks i t s x)))
-        unfolding tableChecks monitorChecks
-        own = part-accepted 4 place k shape fine
+        pub sized : Sized n cells
+        unfolding tableChecks
+        sized =
+            let (c1, (c2, (c3, (c4, _)))) = passed-first (take 4 (tableChecks i t)) .0 (sym shape ∙ fine) in
+            record {
+              few = search (nltb→le, not-T, or-right);
+              size = eqb→eq (length cells) (n * 32) (rw Bool·not-not at (not-T (not (eqb (length cells) (n * 32))) c4));
+            }
 
-        pub place-11 : (y : Checked) → n ≤ s → y ≡ refuse 11 i → y ≡ first (take 6 (monitorChecks i t s x))
-        unfolding first monitorChecks
-        place-11 y h e = e ∙ sym (own ∙ rw (le-leb n s h))
+        walked : (six : Bool) (d v : ℕ) → v ≡ least (n * 32) (faultAt six n d cells)
+            → any (n * 32) (faultAt six n d cells) ≡ ltb v (length cells)
+        walked six d v e = rw (e, sized .size) (sym (least-any (faultAt six n d cells) (n * 32)))
 
-        module _ (below : s < n) (d : ℕ) (lists : d ≡ bitOr (a .inputs) (a .outputs)) (b : Bool) (known : b ≡ member d x) where
-          pub place-12 : (y : Checked) → not b ≡ true → y ≡ refuse 12 i → y ≡ first (take 6 (monitorChecks i t s x))
-          unfolding first monitorChecks
-          place-12 y h e = e ∙ sym (own ∙ rw (lt-leb n s below, ← union d x lists, ← known, h))
+        module _ (d v : ℕ) (five : v ≡ least (n * 32) (faultAt false n d cells)) where
+          pub check-5 : (x : Checked) → v < length cells → x ≡ refuse 5 i → x ≡ first (tableChecks i t)
+          unfolding first tableChecks
+          check-5 x h e = e ∙ sym (part-accepted 4 (tableChecks i t) k shape fine ∙ rw (walked false d v five, lt-ltb v (length cells) h))
 
-          pub place-ok : not b ≡ false → Accepted ≡ first (take 6 (monitorChecks i t s x))
-          unfolding first monitorChecks
-          place-ok h = sym (own ∙ rw (lt-leb n s below, ← union d x lists, ← known, h))
+          module _ (sound : length cells ≤ v) (lists : d ≡ bitOr (a .inputs) (a .outputs)) (w : ℕ)
+              (six : w ≡ least (n * 32) (faultAt true n d cells)) where
+            undeclared : any (n * 32) (λ k. ltb (getD cells k 65535) n && not (declared t (k % 32))) ≡ ltb w (length cells)
+            undeclared = any-cong (n * 32) _ (faultAt true n d cells) (λ k l. rw (union 0 d (k % 32) lists)) ∙ walked true d w six
+
+            rest : first (tableChecks i t) ≡ cond (ltb w (length cells)) (refuse 6 i) Accepted
+            unfolding first tableChecks
+            rest = part-accepted 4 (tableChecks i t) k shape fine ∙ rw (walked false d v five, le-ltb v (length cells) sound, undeclared)
+
+            pub check-6 : (x : Checked) → w < length cells → x ≡ refuse 6 i → x ≡ first (tableChecks i t)
+            check-6 x h e = e ∙ sym (rest ∙ rw (lt-ltb w (length cells) h))
+
+            pub check-ok : length cells ≤ w → Accepted ≡ first (tableChecks i t)
+            check-ok h = sym (rest ∙ rw (le-ltb w (length cells) h))

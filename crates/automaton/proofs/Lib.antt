@@ -1,6 +1,5 @@
 pub mod Least
 pub mod Counts
 pub mod Walk
-pub mod Flags
 pub mod Checks
 pub mod Replies

@@ -2,11 +2,12 @@
 use mathlib.Core.Path.{_≡_}
 use mathlib.Core.Bool.{Bool, true, false, not, _&&_, cond}
 use mathlib.Core.List.{List}
-use Prim.Native.Nat.{ℕ, zero, suc, _*_, _%_, _≤_, _<_}
+use Prim.Native.Nat.{ℕ, zero, suc, _*_, _%_, _≤_}
 use lib.Dec.{ltb}
-use lib.ListN.{getD, length}
+use lib.ListN.{getD, length, replicate}
+use Rattle.theory.specs.declared.Automaton.{Automaton}
 use Rattle.theory.specs.Bounded.{any}
-use Rattle.theory.specs.Table.{member, decode}
+use Rattle.theory.specs.Table.{Table, table, member, decode}
 use Rattle.theory.specs.Checks.{stray}
 use Rattle.automaton.specs.declared.Followed.{Followed}
 use Rattle.automaton.specs.declared.Followed.the-variants as followed
@@ -17,11 +18,9 @@ pub record Sized (n : ℕ) (cells : List ℕ) : Type 0 where
   pub few : n ≤ 4096
   pub size : length cells ≡ n * 32
 
--- Among them the monitor's own cell (checks 11 and 12).
-pub record Placed (n : ℕ) (cells : List ℕ) (s a : ℕ) : Type 0 where
-  pub sized : Sized n cells
-  pub below : s < n
-  pub narrow : a < 32
+-- A table with so many cells and no step: checks that look at no cell come out as for any table with so many.
+abbrev pub stepless : Automaton → ℕ → Table
+stepless a count = table a (replicate count 65535)
 
 -- The least number below n that passes the test; n if none does.
 unfoldable pub least : ℕ → (ℕ → Bool) → ℕ

@@ -1,22 +1,19 @@
 // Calls on one interface automaton (document 01: table): judging, mirroring, following; and the checks that the calls on two begin with.
 ghost use mathlib.Core.Path.{_≡_};
 ghost use mathlib.Core.Bool.{_&&_};
-ghost use Prim.Native.Nat.{ℕ, _+_, _*_};
+ghost use Prim.Native.Nat.{ℕ};
 ghost use lib.Bits.{bitOr};
-ghost use lib.ListN.{take, getD};
+ghost use lib.ListN.{take};
 ghost use Rattle.theory.specs.Bounded.{any};
 ghost use Rattle.theory.specs.Table.{table, member, mirrorHeader};
 ghost use Rattle.theory.specs.Checks.{first, refuse as refused, tableChecks, monitorChecks};
 ghost use Rattle.automaton.specs.Replies.{mirrorReply, followReply};
-ghost use Rattle.automaton.specs.Cells.{Placed, ownReply};
+ghost use Rattle.automaton.specs.Cells.{stepless, ownReply};
 use theory::Automaton;
 use theory::Checked;
 use theory::Refusal;
 
 mod faults;
-mod kept;
-
-pub use kept::count_kept;
 
 // The mirror's numbers; its cells are the automaton's own.
 pub enum Mirrored {
@@ -31,8 +28,8 @@ pub enum Followed {
     Refused(Refusal),
 }
 
-// Every refusal is made here.
-fn refusal(number: u32, table: u32) -> Refusal
+// Every refusal is made here, those of the calls on two automata too.
+pub fn refusal(number: u32, table: u32) -> Refusal
     ensures { λ r. ⌜ r ≡ record { number = number; table = table } ⌝ }
 {
     Refusal { number, table }
@@ -46,7 +43,7 @@ pub fn refuse(number: u32, table: u32) -> Checked
 }
 
 // The actions of both lists.
-fn declared(a: Automaton) -> u32
+pub fn declared(a: Automaton) -> u32
     ensures { λ r. ⌜ r ≡ bitOr (a .inputs) (a .outputs) ⌝ }
 {
     a.inputs | a.outputs
@@ -59,9 +56,9 @@ fn overlap(s: u32, t: u32) -> bool
     sets::size(s | t) < sets::size(s) + sets::size(t)
 }
 
-// Checks 1 to 4, those that look at no cell.
-fn check_shape(a: Automaton, cells: &[u16], number: u32) -> Checked
-    ensures { λ r. ⌜ r ≡ first (take 4 (tableChecks number (table a (now (cells .entry))))) ⌝ }
+// Checks 1 to 4, those that look at no cell; `cells` is how many there are.
+fn check_shape(a: Automaton, cells: usize, number: u32) -> Checked
+    ensures { λ r. ⌜ r ≡ first (take 4 (tableChecks number (stepless a cells))) ⌝ }
 {
     if a.states == 0 {
         return refuse(1, number);
@@ -75,7 +72,7 @@ fn check_shape(a: Automaton, cells: &[u16], number: u32) -> Checked
     if overlap(a.inputs, a.outputs) {
         return refuse(3, number);
     }
-    if cells.len() != a.states * 32 {
+    if cells != a.states * 32 {
         return refuse(4, number);
     }
     Checked::Accepted
@@ -85,7 +82,7 @@ fn check_shape(a: Automaton, cells: &[u16], number: u32) -> Checked
 pub fn check(a: Automaton, cells: &[u16], number: u32) -> Checked
     ensures { λ r. ⌜ r ≡ first (tableChecks number (table a (now (cells .entry)))) ⌝ }
 {
-    let shape = check_shape(a, cells, number);
+    let shape = check_shape(a, cells.len(), number);
     let Checked::Accepted = shape else {
         return shape;
     };
@@ -106,8 +103,8 @@ pub fn judge(a: Automaton, cells: &[u16]) -> Checked
     check(a, cells, 1)
 }
 
-// The numbers with the two lists exchanged.
-fn exchange(a: Automaton) -> Automaton
+// The numbers with the two lists exchanged. The sequencer maker mirrors plan and outcome by it: their checks are others than mirror's.
+pub fn exchange(a: Automaton) -> Automaton
     ensures { λ r. ⌜ r ≡ mirrorHeader a ⌝ }
 {
     Automaton {
@@ -128,9 +125,9 @@ pub fn mirror(a: Automaton, cells: &[u16]) -> Mirrored
     }
 }
 
-// The monitor's checks before it reads a cell: 1 to 4, 11, 12.
-fn check_place(a: Automaton, cells: &[u16], state: usize, action: usize) -> Checked
-    ensures { λ r. ⌜ r ≡ first (take 6 (monitorChecks 1 (table a (now (cells .entry))) state action)) ⌝ }
+// The monitor's checks before it reads a cell: 1 to 4, 11, 12; `cells` is how many there are.
+pub fn check_place(a: Automaton, cells: usize, state: usize, action: usize) -> Checked
+    ensures { λ r. ⌜ r ≡ first (take 6 (monitorChecks 1 (stepless a cells) state action)) ⌝ }
 {
     let shape = check_shape(a, cells, 1);
     let Checked::Accepted = shape else {
@@ -146,11 +143,10 @@ fn check_place(a: Automaton, cells: &[u16], state: usize, action: usize) -> Chec
 }
 
 // What the monitor's own cell says: a step, none, or check 5.
-fn advance(cells: &[u16], states: usize, state: usize, action: usize) -> Followed
-    requires { ⌜ Placed states (now cells) state action ⌝ }
-    ensures { λ r. ⌜ r ≡ ownReply states (getD (now (cells .entry)) (state * 32 + action) 65535) ⌝ }
+pub fn advance(cell: u16, states: usize) -> Followed
+    ensures { λ r. ⌜ r ≡ ownReply states cell ⌝ }
 {
-    let next = cells[state * 32 + action] as usize;
+    let next = cell as usize;
     if next < states {
         return Followed::Moved(next);
     }
@@ -164,8 +160,8 @@ fn advance(cells: &[u16], states: usize, state: usize, action: usize) -> Followe
 pub fn follow(a: Automaton, cells: &[u16], state: usize, action: usize) -> Followed
     ensures { λ r. ⌜ r ≡ followReply (table a (now (cells .entry))) state action ⌝ }
 {
-    match check_place(a, cells, state, action) {
+    match check_place(a, cells.len(), state, action) {
         Checked::Refused(r) => Followed::Refused(r),
-        Checked::Accepted => advance(cells, a.states, state, action),
+        Checked::Accepted => advance(cells[state * 32 + action], a.states),
     }
 }

@@ -1,25 +1,21 @@
--- The replies of the checks of two automata: laws of any list of checks, of 9 and 10, of 8.
+-- The replies of the checks of two automata: laws of any list of checks, of 9 and 10.
 use mathlib.Core.Path.{_≡_, sym, _∙_}
-use mathlib.Core.Bool.{Bool, true, false, not, _&&_, _||_, Bool·not-not}
-use mathlib.Core.List.{List, [], _∷_, _++_}
+use mathlib.Core.Bool.{Bool, true, false, not}
+use mathlib.Core.List.{List, _∷_, _++_}
 use Prim.Native.Nat.{ℕ, _*_, _≤_, _<_}
 use native.Mathlib.Nat.{mul-le-mul}
 use native.Mathlib.Omega.{arith}
 use mir.Syntax.{w64}
 use mir.Val.{Fits}
-use lib.Bits.{bitOr}
 use lib.Dec.{eqb}
 use borrow.Author.Tests.{eq-eqb, ne-eqb, lt-ltb, le-ltb}
 use Rattle.theory.specs.declared.Automaton.{Automaton}
 use Rattle.theory.specs.declared.Refusal.{Refusal}
 use Rattle.theory.specs.declared.Checked.{Checked}
 use Rattle.theory.specs.declared.Checked.the-variants.{Accepted, Refused}
-use Rattle.theory.specs.Bounded.{any}
-use Rattle.theory.specs.Table.{table, member}
-use Rattle.theory.specs.Checks.{Check, first, refuse, tableChecks, eachTable, check8}
-use Rattle.theory.proofs.Bounded.{any-cong, any-or}
+use Rattle.theory.specs.Table.{table}
+use Rattle.theory.specs.Checks.{Check, first, refuse, tableChecks, eachTable}
 use Rattle.theory.proofs.Checks.{first-refused, first-accepted, first-part, checks-valid}
-use Rattle.theory.proofs.Sets.{member-or}
 use Rattle.checks.specs.declared.Room.{Room}
 use Rattle.checks.specs.declared.Room.the-variants as room
 use Rattle.checks.specs.Room.{Few, oddFor, sizeChecks}
@@ -83,27 +79,3 @@ module _ (pairs : ℕ) (r : Room) where
     pub sizes-ok : b ≡ false → Accepted ≡ first (sizeChecks pairs r)
     unfolding first sizeChecks
     sizes-ok h = rw (le-ltb 4096 pairs small, ← odd, h)
-
--- ---- 8, which looks at no cell
-
--- An action is in the first set and not in the second.
-abbrev outside : ℕ → ℕ → ℕ → Bool
-outside s t = λ x. member s x && not (member t x)
-
-module _ (a b : Automaton) where
-  -- A signal of the module is not in the plan.
-  abbrev unplanned : ℕ → Bool
-  unplanned x = (member (a .inputs) x || member (a .outputs) x) && not (member (b .inputs) x || member (b .outputs) x)
-
-  module _ (r : Bool) (planned : r ≡ not (any 32 (outside (bitOr (a .inputs) (a .outputs)) (bitOr (b .inputs) (b .outputs))))) where
-    in-halves : check8 (table a []) (table b []) .applies ≡ (not r || any 32 (outside (a .outputs) (b .outputs)))
-    in-halves =
-        let half : any 32 unplanned ≡ not r = rw (planned, Bool·not-not) (any-cong 32 _ _ (λ x l. simp member-or)) in
-        any-or 32 unplanned (outside (a .outputs) (b .outputs)) ∙ rw half
-
-    pub first-half : not r ≡ true → true ≡ check8 (table a []) (table b []) .applies
-    first-half h = sym (in-halves ∙ rw h)
-
-    pub second-half : not r ≡ false → (s : Bool) → s ≡ not (any 32 (outside (a .outputs) (b .outputs)))
-        → not s ≡ check8 (table a []) (table b []) .applies
-    second-half h s e = sym (in-halves ∙ rw (h, e, Bool·not-not))

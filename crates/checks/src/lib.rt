@@ -1,9 +1,8 @@
 // The checks of the calls on two automata, in document 01's order: 1 to 6 of the first, then of the second, then what concerns both.
 ghost use mathlib.Core.Path.{_≡_};
-ghost use mathlib.Core.List.{[]};
 ghost use Prim.Native.Nat.{_*_, _≤_};
 ghost use Rattle.theory.specs.Table.{table};
-ghost use Rattle.theory.specs.Checks.{first, eachTable, check8, productChecks, compatibilityChecks, compositionChecks, refinementChecks, synthesisChecks};
+ghost use Rattle.theory.specs.Checks.{first, eachTable, productChecks, compatibilityChecks, compositionChecks, refinementChecks};
 ghost use Rattle.checks.specs.Room.{Few, oddFor, sizeChecks, composableChecks};
 use theory::Automaton;
 use theory::Checked;
@@ -15,8 +14,8 @@ enum Room {
     Both(usize, usize),
 }
 
-// 1 to 6 of each.
-fn each(a: Automaton, ca: &[u16], b: Automaton, cb: &[u16]) -> Checked
+// 1 to 6 of each. The sequencer maker makes them where its check 8 applies.
+pub fn each(a: Automaton, ca: &[u16], b: Automaton, cb: &[u16]) -> Checked
     ensures { λ r. ⌜ r ≡ first (eachTable (table a (now (ca .entry))) (table b (now (cb .entry)))) ⌝ }
 {
     let one = automaton::check(a, ca, 1);
@@ -109,35 +108,4 @@ pub fn refinement(a: Automaton, ca: &[u16], b: Automaton, cb: &[u16], marks: usi
         return tables;
     };
     sizes(a.states, b.states, Room::Bytes(marks))
-}
-
-// 8, of the lists alone: whether a module signal is not in the plan, or a module output is no plan output.
-fn uncovered(a: Automaton, b: Automaton) -> bool
-    ensures { λ r. ⌜ r ≡ check8 (table a []) (table b []) .applies ⌝ }
-{
-    if !sets::is_subset(a.inputs | a.outputs, b.inputs | b.outputs) {
-        return true;
-    }
-    !sets::is_subset(a.outputs, b.outputs)
-}
-
-// The checks of the sequencer maker, of module and plan: 8 in place of 7.
-pub fn synthesis(
-    a: Automaton,
-    ca: &[u16],
-    b: Automaton,
-    cb: &[u16],
-    cells: usize,
-    flags: usize,
-) -> Checked
-    ensures { λ r. ⌜ r ≡ first (synthesisChecks (table a (now (ca .entry))) (table b (now (cb .entry))) cells flags) ⌝ }
-{
-    let tables = each(a, ca, b, cb);
-    let Checked::Accepted = tables else {
-        return tables;
-    };
-    if uncovered(a, b) {
-        return automaton::refuse(8, 0);
-    }
-    sizes(a.states, b.states, Room::Both(cells, flags))
 }

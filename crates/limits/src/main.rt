@@ -157,7 +157,7 @@ fn verdict(call: &[u8], yes: bool, bytes: &[u8]) {
     } else {
         say(b": no");
     }
-    say_number(b", kept ", automaton::count_kept(bytes) as u64);
+    say_number(b", kept ", counts::count_kept(bytes) as u64);
 }
 
 // The deepest search: the chain sends signal 0 on and on, and at its end signal 1, which its partner declares and never takes.

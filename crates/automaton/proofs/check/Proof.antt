@@ -1,4 +1,4 @@
-use Rattle.automaton.proofs.Checks.{part-refused, sized, check-5, check-6, check-ok}
+use Rattle.automaton.proofs.Checks.{check-shape, sized, check-5, check-6, check-ok}
 use borrow.Author.Needs.{needs}
 use Rattle.automaton.proofs.check.Statement.{statement}
 use Rattle.automaton.proofs.check.Tie as tie
@@ -13,7 +13,7 @@ enum-told-2 : tie.Need-enum-told-2
 enum-told-2 c = search needs
 
 returns : tie.Need-returns
-returns c = search (part-refused, needs)
+returns c = search (check-shape, needs)
 
 declared-requires : tie.Need-declared-requires
 declared-requires c κs = search needs

@@ -1,0 +1,117 @@
+// Lines of table text (document 01, "Table text") put into a buffer one after the other. A text that does not fit is cut off at the buffer's
+// end, and the place after it is then one past that end: so no call has to look whether those before it had room.
+ghost use mathlib.Core.Path.{_≡_};
+ghost use mathlib.Core.List.{[], _∷_, _++_};
+ghost use Prim.Native.Nat.{_+_, _%_, _≤_};
+ghost use lib.ListN.{length, drop};
+ghost use Rattle.text.specs.Writing.{decimal};
+ghost use Rattle.emit.specs.Buffer.{after, stored};
+ghost use Rattle.emit.specs.Rows.{tableText, signalText, stepText};
+
+// The bytes of s, for which there is room.
+fn copy(d: &mut [u8], at: usize, s: &[u8])
+    requires { ⌜ at + length (now s) ≤ length (now d) ⌝ }
+    ensures { λ _. ⌜ now (d .exit) ≡ stored (now (d .entry)) at (now (s .entry)) ⌝ }
+{
+    for i in 0..s.len() {
+        d[at + i] = s[i];
+    }
+}
+
+// A part, from the place `at` on. Each call here returns the place after what it put.
+pub fn put(d: &mut [u8], at: usize, s: &[u8]) -> usize
+    ensures { λ r. ⌜ r ≡ after (length (now (d .entry))) at (now (s .entry)) ⌝ }
+    ensures { λ r. ⌜ now (d .exit) ≡ stored (now (d .entry)) at (now (s .entry)) ⌝ }
+{
+    if d.len() < at {
+        return at;
+    }
+    let room = d.len() - at;
+    if room < s.len() {
+        copy(d, at, &s[0..room]);
+        return d.len() + 1;
+    }
+    copy(d, at, s);
+    at + s.len()
+}
+
+// A field, and the byte that ends it: a tab, or the line's LF.
+pub fn field(d: &mut [u8], at: usize, s: &[u8], end: u8) -> usize
+    ensures { λ r. ⌜ r ≡ after (length (now (d .entry))) at (now (s .entry) ++ end ∷ []) ⌝ }
+    ensures { λ r. ⌜ now (d .exit) ≡ stored (now (d .entry)) at (now (s .entry) ++ end ∷ []) ⌝ }
+{
+    let i = put(d, at, s);
+    let last = [end];
+    put(d, i, &last)
+}
+
+// The last digit of a number.
+fn digit(n: usize) -> u8
+    ensures { λ r. ⌜ r ≡ 48 + n % 10 ⌝ }
+{
+    48 + (n % 10) as u8
+}
+
+// The digits of a number into five bytes, last digit first, up to the bytes' end; returns where they begin.
+fn digits(d: &mut [u8], n: usize) -> usize
+    requires { ⌜ length (now d) ≡ 5 ⌝ }
+    ensures { λ r. ⌜ (r ≤ 4) × (drop r (now (d .exit)) ≡ decimal n) ⌝ }
+{
+    let mut left = n;
+    let mut first: usize = 4;
+    d[first] = digit(left);
+    while 0 < first {
+        if left < 10 {
+            return first;
+        }
+        left = left / 10;
+        first -= 1;
+        d[first] = digit(left);
+    }
+    first
+}
+
+// A field that is a number.
+pub fn number(d: &mut [u8], at: usize, n: usize, end: u8) -> usize
+    ensures { λ r. ⌜ r ≡ after (length (now (d .entry))) at (decimal n ++ end ∷ []) ⌝ }
+    ensures { λ r. ⌜ now (d .exit) ≡ stored (now (d .entry)) at (decimal n ++ end ∷ []) ⌝ }
+{
+    let mut five = [0u8; 5];
+    let first = digits(&mut five, n);
+    field(d, at, &five[first..5], end)
+}
+
+// The `table` line.
+pub fn table_line(d: &mut [u8], at: usize, name: &[u8], states: usize, initial: usize) -> usize
+    ensures { λ r. ⌜ r ≡ after (length (now (d .entry))) at (tableText (now (name .entry)) states initial) ⌝ }
+    ensures { λ r. ⌜ now (d .exit) ≡ stored (now (d .entry)) at (tableText (now (name .entry)) states initial) ⌝ }
+{
+    let i = field(d, at, b"table", 9);
+    let j = field(d, i, name, 9);
+    let k = number(d, j, states, 9);
+    number(d, k, initial, 10)
+}
+
+// The declaration of a signal.
+pub fn signal_line(d: &mut [u8], at: usize, input: bool, name: &[u8]) -> usize
+    ensures { λ r. ⌜ r ≡ after (length (now (d .entry))) at (signalText input (now (name .entry))) ⌝ }
+    ensures { λ r. ⌜ now (d .exit) ≡ stored (now (d .entry)) at (signalText input (now (name .entry))) ⌝ }
+{
+    if input {
+        let i = field(d, at, b"in", 9);
+        return field(d, i, name, 10);
+    }
+    let i = field(d, at, b"out", 9);
+    field(d, i, name, 10)
+}
+
+// The line of a step.
+pub fn step_line(d: &mut [u8], at: usize, from: usize, name: &[u8], to: usize) -> usize
+    ensures { λ r. ⌜ r ≡ after (length (now (d .entry))) at (stepText from (now (name .entry)) to) ⌝ }
+    ensures { λ r. ⌜ now (d .exit) ≡ stored (now (d .entry)) at (stepText from (now (name .entry)) to) ⌝ }
+{
+    let i = field(d, at, b"step", 9);
+    let j = number(d, i, from, 9);
+    let k = field(d, j, name, 9);
+    number(d, k, to, 10)
+}

@@ -1,0 +1,11 @@
+-- What the contract of reading a file cites.
+use mathlib.Core.List.{List}
+use Prim.Native.Nat.{ℕ}
+use Rattle.io.specs.Counts.{Counts}
+use Rattle.files.specs.declared.File.{File}
+use Rattle.files.specs.declared.File.the-variants.{Bytes, Unreadable}
+
+-- The bytes that were read stand at the start of the buffer, which holds them all.
+abbrev pub Within : File → List ℕ → Type 0
+Within (Bytes k) buf = Counts k buf
+Within Unreadable buf = Unit {0}

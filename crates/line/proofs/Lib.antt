@@ -1,0 +1,4 @@
+pub mod Cuts
+pub mod Judging
+pub mod Parsing
+pub mod Meaning

@@ -1,0 +1,23 @@
+use Rattle.lookup.proofs.Parts.{part-name}
+use borrow.Author.Needs.{needs}
+use Rattle.lookup.proofs.name.Statement.{statement}
+use Rattle.lookup.proofs.name.Tie as tie
+
+find-requires : tie.Need-find-requires
+find-requires c κs = search needs
+
+text-of-requires : tie.Need-text-of-requires
+text-of-requires c κs = search needs
+
+after-requires : tie.Need-after-requires
+after-requires c κs = search needs
+
+before-requires : tie.Need-before-requires
+before-requires c κs = search needs
+
+returns : tie.Need-returns
+returns c = search (part-name, needs)
+
+pub name-spec : {M : Type 1} → statement M
+name-spec =
+    tie.close (tie.spec find-requires text-of-requires after-requires before-requires returns)

@@ -1,0 +1,35 @@
+// The name of a signal by its number, handed back as a part of a lent text (document 01, "Table text"), and why there is none.
+ghost use mathlib.Core.Path.{_≡_};
+ghost use Rattle.text.specs.Lookup.{lookup, lookupNumber, lookupAlone, lookupNumberAlone};
+
+// The name that the signal has in two texts read together: the part of the module's or the plan's text where it was first declared; an
+// empty part where the lookup is refused.
+pub fn name<'a>(m: &'a [u8], p: &'a [u8], signal: usize) -> &'a [u8]
+    ensures { λ r. ⌜ now r ≡ lookup (now (m .entry)) (now (p .entry)) signal .name ⌝ }
+{
+    let found = reader::find(m, p, signal);
+    let text = reader::text_of(m, p, found.text);
+    scan::before(scan::after(text, found.from), found.length)
+}
+
+// The number of the refusal, the reading's before 12; 0 where nothing is refused.
+pub fn number<'a>(m: &'a [u8], p: &'a [u8], signal: usize) -> u32
+    ensures { λ r. ⌜ r ≡ lookupNumber (now (m .entry)) (now (p .entry)) signal ⌝ }
+{
+    reader::find(m, p, signal).number
+}
+
+// The name that the signal has in a text read alone.
+pub fn name_alone(m: &[u8], signal: usize) -> &[u8]
+    ensures { λ r. ⌜ now r ≡ lookupAlone (now (m .entry)) signal .name ⌝ }
+{
+    let found = reader::find_alone(m, signal);
+    scan::before(scan::after(m, found.from), found.length)
+}
+
+// The number of that refusal.
+pub fn number_alone(m: &[u8], signal: usize) -> u32
+    ensures { λ r. ⌜ r ≡ lookupNumberAlone (now (m .entry)) signal ⌝ }
+{
+    reader::find_alone(m, signal).number
+}

@@ -1,0 +1,224 @@
+// The C boundary (document 01, "The parts we ship"): fit, refinement and follower on numbers and byte buffers, where a cell is two bytes, low
+// byte first. include/moqresam.h says the same to C.
+ghost use mathlib.Core.Path.{_≡_};
+ghost use lib.ListN.{length};
+ghost use Rattle.automaton.specs.Replies.{followReply};
+ghost use Rattle.composition.specs.Replies.{compatibilityReply, compatibilityFlags};
+ghost use Rattle.refinement.specs.Replies.{refinementReply, refinementMarks};
+ghost use Rattle.cells.specs.Bytes.{byteTable, tableOfBytes};
+ghost use Rattle.moqresam.specs.Replies.{fitReply, refineReply, monitorReply, stateAfter};
+use automaton::Followed;
+use composition::Compatibility;
+use refinement::Refined;
+use theory::Automaton;
+use theory::Checked;
+
+mod fits;
+mod refines;
+
+#[repr(C)]
+pub struct FitReply {
+    pub number: u32,
+    pub table: u32,
+    pub compatible: bool,
+    pub rounds: usize,
+}
+
+#[repr(C)]
+pub struct RefineReply {
+    pub number: u32,
+    pub table: u32,
+    pub refines: bool,
+}
+
+#[repr(C)]
+pub struct FollowReply {
+    pub number: u32,
+    pub table: u32,
+    pub moved: bool,
+    pub state: usize,
+}
+
+fn fit_reply(c: Compatibility) -> FitReply
+    ensures { λ r. ⌜ r ≡ fitReply c ⌝ }
+{
+    match c {
+        Compatibility::Decided { compatible, rounds } => FitReply {
+            number: 0,
+            table: 0,
+            compatible,
+            rounds,
+        },
+        Compatibility::Refused(r) => FitReply {
+            number: r.number,
+            table: r.table,
+            compatible: false,
+            rounds: 0,
+        },
+    }
+}
+
+fn refine_reply(c: Refined) -> RefineReply
+    ensures { λ r. ⌜ r ≡ refineReply c ⌝ }
+{
+    match c {
+        Refined::Decided(refines) => RefineReply {
+            number: 0,
+            table: 0,
+            refines,
+        },
+        Refined::Refused(r) => RefineReply {
+            number: r.number,
+            table: r.table,
+            refines: false,
+        },
+    }
+}
+
+fn follow_reply(state: usize, f: Followed) -> FollowReply
+    ensures { λ r. ⌜ r ≡ monitorReply state f ⌝ }
+{
+    match f {
+        Followed::Moved(to) => FollowReply {
+            number: 0,
+            table: 0,
+            moved: true,
+            state: to,
+        },
+        Followed::NotNow => FollowReply {
+            number: 0,
+            table: 0,
+            moved: false,
+            state,
+        },
+        Followed::Refused(r) => FollowReply {
+            number: r.number,
+            table: r.table,
+            moved: false,
+            state,
+        },
+    }
+}
+
+// The follower's record.
+#[repr(C)]
+pub struct Follower {
+    pub state: usize,
+}
+
+// One step of the monitor. It reads its own cell and no other, so a step takes as long in a large table as in a small one.
+fn follow(a: Automaton, bytes: &[u8], state: usize, signal: usize) -> Followed
+    ensures { λ r. ⌜ r ≡ followReply (byteTable a (now (bytes .entry))) state signal ⌝ }
+{
+    match automaton::check_place(a, cells::count(a.states, bytes.len()), state, signal) {
+        Checked::Refused(r) => Followed::Refused(r),
+        Checked::Accepted => automaton::advance(cells::at(bytes, state * 32 + signal), a.states),
+    }
+}
+
+// Whether two tables fit; the flags are in the lent buffer.
+#[no_mangle]
+pub extern "C" fn moqresam_fit(
+    states_a: usize,
+    initial_a: usize,
+    inputs_a: u32,
+    outputs_a: u32,
+    cells_a: &[u8],
+    states_b: usize,
+    initial_b: usize,
+    inputs_b: u32,
+    outputs_b: u32,
+    cells_b: &[u8],
+    flags: &mut [u8],
+) -> FitReply
+    ensures { λ r. ⌜ r ≡ fitReply (compatibilityReply (tableOfBytes «states_a» «initial_a» «inputs_a» «outputs_a» (now («cells_a» .entry))) (tableOfBytes «states_b» «initial_b» «inputs_b» «outputs_b» (now («cells_b» .entry))) (length (now (flags .entry)))) ⌝ }
+    ensures { λ r. ⌜ now (flags .exit) ≡ compatibilityFlags (tableOfBytes «states_a» «initial_a» «inputs_a» «outputs_a» (now («cells_a» .entry))) (tableOfBytes «states_b» «initial_b» «inputs_b» «outputs_b» (now («cells_b» .entry))) (now (flags .entry)) ⌝ }
+{
+    let a = Automaton {
+        states: states_a,
+        initial: initial_a,
+        inputs: inputs_a,
+        outputs: outputs_a,
+    };
+    let b = Automaton {
+        states: states_b,
+        initial: initial_b,
+        inputs: inputs_b,
+        outputs: outputs_b,
+    };
+    fit_reply(fits::fit(a, cells_a, b, cells_b, flags))
+}
+
+// Whether the first table refines the second; the marks are in the lent buffer.
+#[no_mangle]
+pub extern "C" fn moqresam_refine(
+    states_a: usize,
+    initial_a: usize,
+    inputs_a: u32,
+    outputs_a: u32,
+    cells_a: &[u8],
+    states_b: usize,
+    initial_b: usize,
+    inputs_b: u32,
+    outputs_b: u32,
+    cells_b: &[u8],
+    marks: &mut [u8],
+) -> RefineReply
+    ensures { λ r. ⌜ r ≡ refineReply (refinementReply (tableOfBytes «states_a» «initial_a» «inputs_a» «outputs_a» (now («cells_a» .entry))) (tableOfBytes «states_b» «initial_b» «inputs_b» «outputs_b» (now («cells_b» .entry))) (length (now (marks .entry)))) ⌝ }
+    ensures { λ r. ⌜ now (marks .exit) ≡ refinementMarks (tableOfBytes «states_a» «initial_a» «inputs_a» «outputs_a» (now («cells_a» .entry))) (tableOfBytes «states_b» «initial_b» «inputs_b» «outputs_b» (now («cells_b» .entry))) (now (marks .entry)) ⌝ }
+{
+    let a = Automaton {
+        states: states_a,
+        initial: initial_a,
+        inputs: inputs_a,
+        outputs: outputs_a,
+    };
+    let b = Automaton {
+        states: states_b,
+        initial: initial_b,
+        inputs: inputs_b,
+        outputs: outputs_b,
+    };
+    refine_reply(refines::refine(a, cells_a, b, cells_b, marks))
+}
+
+// The follower at a state, for a signal.
+#[no_mangle]
+pub extern "C" fn moqresam_follow(
+    states: usize,
+    initial: usize,
+    inputs: u32,
+    outputs: u32,
+    cells: &[u8],
+    state: usize,
+    signal: usize,
+) -> FollowReply
+    ensures { λ r. ⌜ r ≡ monitorReply state (followReply (tableOfBytes states initial inputs outputs (now (cells .entry))) state signal) ⌝ }
+{
+    let a = Automaton {
+        states,
+        initial,
+        inputs,
+        outputs,
+    };
+    follow_reply(state, follow(a, cells, state, signal))
+}
+
+// The follower as a record that the firmware lends: a step over the one by value.
+#[no_mangle]
+pub extern "C" fn moqresam_follow_record(
+    states: usize,
+    initial: usize,
+    inputs: u32,
+    outputs: u32,
+    cells: &[u8],
+    follower: &mut Follower,
+    signal: usize,
+) -> FollowReply
+    ensures { λ r. ⌜ (r ≡ monitorReply (now (follower .entry) .state) (followReply (tableOfBytes states initial inputs outputs (now (cells .entry))) (now (follower .entry) .state) signal)) × (now (follower .exit) .state ≡ stateAfter (now (follower .entry) .state) (followReply (tableOfBytes states initial inputs outputs (now (cells .entry))) (now (follower .entry) .state) signal)) ⌝ }
+{
+    let state = follower.state;
+    let reply = moqresam_follow(states, initial, inputs, outputs, cells, state, signal);
+    follower.state = reply.state;
+    reply
+}

@@ -1,0 +1,67 @@
+-- The checks on names, as the code makes them.
+use mathlib.Core.Path.{_≡_, sym, _∙_}
+use mathlib.Core.Bool.{Bool, true, false, not}
+use mathlib.Core.List.{List, []}
+use Prim.Native.Nat.{ℕ, _<_}
+use native.Mathlib.Omega.{arith}
+use lib.Bits.{bitOr}
+use Rattle.theory.specs.declared.Automaton.{Automaton}
+use Rattle.theory.specs.declared.Checked.{Checked}
+use Rattle.theory.specs.declared.Checked.the-variants.{Accepted}
+use Rattle.theory.specs.Sets.{has}
+use Rattle.theory.specs.Table.{Table, table}
+use Rattle.theory.specs.Checks.{first, refuse, declared}
+use Rattle.theory.proofs.Bounded.{any-cong}
+use Rattle.theory.proofs.Checks.{passed-first}
+use Rattle.theory.proofs.Sets.{member-or, has-member}
+use Rattle.text.specs.Fields.{nameOk}
+use Rattle.text.specs.Writing.{nameOf, misnamed, ambiguous}
+use Rattle.text.proofs.Entries.{is-false}
+use Rattle.names.specs.Names.{anyOf, repeated, Named, nameChecks}
+use Rattle.names.proofs.Names.{named-all}
+
+-- The declared signals are the members of both lists' union.
+pub declared-has : (a : Automaton) (cells : List ℕ) (x : ℕ) → x < 32 → declared (table a cells) x ≡ has (bitOr (a .inputs) (a .outputs)) x
+declared-has a cells x h = sym (member-or (a .inputs) (a .outputs) x) ∙ has-member (bitOr (a .inputs) (a .outputs)) x h
+
+module _ (a : Automaton) (name : List ℕ) (names : List (List ℕ)) where
+  abbrev acts : ℕ
+  acts = bitOr (a .inputs) (a .outputs)
+
+  abbrev t : Table
+  t = table a []
+
+  all-misnamed : anyOf acts (λ (x : ℕ). not (nameOk (nameOf names x))) ≡ misnamed t name names
+  unfolding anyOf
+  all-misnamed = any-cong 32 _ _ (λ x h. rw (declared-has a [] x h))
+
+  all-repeated : repeated acts names ≡ ambiguous t name names
+  unfolding repeated
+  all-repeated = any-cong 32 _ _ (λ x h. any-cong x _ _ (λ y k. rw (declared-has a [] x h, declared-has a [] y (omega arith))))
+
+  module _ (p : Bool) (named : p ≡ nameOk name) where
+    pub names-table : not p ≡ true → (r : Checked) → r ≡ refuse 16 0 → r ≡ first (nameChecks a name names)
+    unfolding first nameChecks
+    names-table e r h = rw (← named, e) h
+
+    module _ (e : not p ≡ false) (set : ℕ) (all : set ≡ acts) (q : Bool) (misnames : q ≡ anyOf set (λ (x : ℕ). not (nameOk (nameOf names x)))) where
+      pub names-signals : q ≡ true → (r : Checked) → r ≡ refuse 16 0 → r ≡ first (nameChecks a name names)
+      unfolding first nameChecks
+      names-signals f r h = rw (← named, e, ← all-misnamed, ← all, ← misnames, f) h
+
+      module _ (f : q ≡ false) (s : Bool) (repeats : s ≡ repeated set names) where
+        pub names-repeated : s ≡ true → (r : Checked) → r ≡ refuse 18 0 → r ≡ first (nameChecks a name names)
+        unfolding first nameChecks
+        names-repeated g r h = rw (← named, e, ← all-misnamed, ← all-repeated, ← all, ← misnames, f, ← repeats, g) h
+
+        pub names-pass : s ≡ false → Accepted ≡ first (nameChecks a name names)
+        unfolding first nameChecks
+        names-pass g = rw (← named, e, ← all-misnamed, ← all-repeated, ← all, ← misnames, f, ← repeats, g)
+
+-- Names that pass are there.
+pub passed-named : (a : Automaton) (name : List ℕ) (names : List (List ℕ)) → first (nameChecks a name names) ≡ Accepted
+    → Named (bitOr (a .inputs) (a .outputs)) names
+unfolding nameChecks
+passed-named a name names e =
+    let (_, (signals, _)) = passed-first (nameChecks a name names) .0 e in
+    named-all _ names (all-misnamed a name names ∙ is-false (misnamed (table a []) name names) signals)

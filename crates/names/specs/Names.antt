@@ -1,0 +1,39 @@
+-- Lent names, questions about those of a set of signals, and the checks on them.
+use mathlib.Core.Bool.{Bool, not, _&&_}
+use mathlib.Core.List.{List, [], _∷_, map}
+use Prim.Native.Nat.{ℕ, _<_}
+use lib.Dec.{T}
+use lib.ListN.{length}
+use denote.Ref.{RefT, now}
+use Rattle.theory.specs.declared.Automaton.{Automaton}
+use Rattle.theory.specs.Bounded.{any}
+use Rattle.theory.specs.Sets.{has}
+use Rattle.theory.specs.Table.{table}
+use Rattle.theory.specs.Checks.{Check}
+use Rattle.text.specs.Fields.{same, nameOk}
+use Rattle.text.specs.Writing.{nameOf, misnamed, ambiguous}
+
+-- The parts that a list of references lends.
+abbrev pub texts : List (RefT (List ℕ)) → List (List ℕ)
+texts l = map (λ (x : RefT (List ℕ)). now x) l
+
+-- Some member of the set passes the test.
+unfoldable pub anyOf : ℕ → (ℕ → Bool) → Bool
+anyOf set f = any 32 (λ a. has set a && f a)
+
+-- Two members of the set have equal names.
+unfoldable pub repeated : ℕ → List (List ℕ) → Bool
+repeated set names = any 32 (λ a. any a (λ b. (has set a && has set b) && same (nameOf names a) (nameOf names b)))
+
+-- Every member of the set has an entry.
+pub record Named (set : ℕ) (names : List (List ℕ)) : Type 0 where
+  pub entry : (a : ℕ) → a < 32 → T (has set a) → a < length names
+
+-- ---- the checks: 16 of the table's name, 16 of a declared signal's name, 18 for equal signal names
+
+abbrev check : ℕ → Bool → Check
+check n b = record { number = n; table = 0; applies = b }
+
+unfoldable pub nameChecks : Automaton → List ℕ → List (List ℕ) → List Check
+nameChecks a name names =
+    check 16 (not (nameOk name)) ∷ check 16 (misnamed (table a []) name names) ∷ check 18 (ambiguous (table a []) name names) ∷ []

@@ -1,0 +1,37 @@
+use Rattle.reader.proofs.Joined.{alone-refused, alone-blank, alone-table, alone-cells}
+use borrow.Author.Needs.{needs}
+use Rattle.reader.proofs.read_alone.Statement.{statement}
+use Rattle.reader.proofs.read_alone.Tie as tie
+
+none-requires : tie.Need-none-requires
+none-requires c κs = search needs
+
+read-requires : tie.Need-read-requires
+read-requires c κs = search needs
+
+clear-requires : tie.Need-clear-requires
+clear-requires c κs = search needs
+
+same-length : tie.Need-same-length
+same-length c = search needs
+
+returns : tie.Need-returns
+returns c = (search (alone-refused, needs), search (alone-blank, needs))
+
+same-length-2 : tie.Need-same-length-2
+same-length-2 c = search needs
+
+returns-2 : tie.Need-returns-2
+returns-2 c = (search (alone-table, needs), search (alone-cells, needs))
+
+pub read-alone-spec : {M : Type 1} → statement M
+read-alone-spec =
+    tie.close
+    (tie.spec
+    none-requires
+    read-requires
+    clear-requires
+    same-length
+    returns
+    same-length-2
+    returns-2)

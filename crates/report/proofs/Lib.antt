@@ -1,0 +1,5 @@
+pub mod Rows
+pub mod Texts
+pub mod Made
+pub mod Whole
+pub mod Short

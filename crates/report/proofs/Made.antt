@@ -1,0 +1,160 @@
+-- What is printed of the maker's reply is what the definition says of the two tables.
+use mathlib.Core.Path.{_≡_, refl, sym, subst, ap, _∙_}
+use mathlib.Core.Bool.{Bool, true, false}
+use mathlib.Core.List.{List}
+use native.Mathlib.Omega.{arith}
+use Prim.Native.Nat.{ℕ, _*_, _/_, _%_, _≤_}
+use lib.ListN.{length}
+use Rattle.theory.specs.declared.Automaton.{Automaton}
+use Rattle.theory.specs.declared.Refusal.{Refusal}
+use Rattle.theory.specs.declared.Checked.{Checked}
+use Rattle.theory.specs.declared.Checked.the-variants.{Accepted, Refused}
+use Rattle.theory.specs.Table.{Table, table, cellsOf, composition, synthesis, controller, controllerHeader, keptCount, stepCount, endCount}
+use Rattle.theory.specs.Checks.{first, synthesisChecks}
+use Rattle.theory.proofs.Bounded.{length-tabulate}
+use Rattle.theory.proofs.Checks.{checks-premises}
+use Rattle.text.specs.Writing.{Order, ascending}
+use Rattle.text.proofs.Lengths.{ascending-order}
+use Rattle.emit.proofs.Buffer.{Puts}
+use Rattle.counts.specs.Cells.{stepsIn, endsIn}
+use Rattle.counts.proofs.Cells.{steps-of-table, ends-of-table}
+use Rattle.synthesis.specs.declared.Synthesis.{Synthesis}
+use Rattle.synthesis.specs.declared.Synthesis.the-variants as made
+use Rattle.synthesis.specs.Replies.{decidedOf, synthesisReply, synthesisCells, synthesisFlags}
+use Rattle.report.specs.Report.{refusalText, figures, withText}
+use Rattle.report.specs.Parts.{sixOf, InOrder, WithText, tableTold, toldText, pairsText}
+
+-- ---- texts in some order
+
+module _ {t u : Table} {f g : (ℕ → List ℕ) → List ℕ} {bytes : List ℕ} {end : ℕ} {bytes′ : List ℕ} (i : InOrder t f bytes end bytes′) where
+  -- The same text of the same table.
+  pub in-order-same : t ≡ u → ((order : ℕ → List ℕ) → f order ≡ g order) → InOrder u g bytes end bytes′
+  in-order-same e h = record {
+    order = i .order;
+    each-once = subst (λ x. Order x (i .order)) e (i .each-once);
+    text = rw (← h (i .order)) (i .text);
+    ends = rw (← h (i .order)) (i .ends);
+  }
+
+-- A text that is the same in any order.
+pub in-any-order : (t : Table) (f : (ℕ → List ℕ) → List ℕ) (s bytes : List ℕ) (end : ℕ) (bytes′ : List ℕ) → ((order : ℕ → List ℕ) → s ≡ f order)
+    → Puts bytes 0 s end bytes′ → InOrder t f bytes end bytes′
+in-any-order t f s bytes end bytes′ h (u, v) =
+    record { order = ascending t; each-once = ascending-order t; text = rw (← h (ascending t)) v; ends = rw (← h (ascending t)) u }
+
+-- ---- the reply
+
+module _ (m p : List ℕ) (s : Synthesis) (cells flags out : List ℕ) (e : ℕ) (out′ : List ℕ) where
+  pub tell-refused : (r : Refusal) → s ≡ made.Refused r → Puts out 0 (refusalText (r .table) (r .number) 0) e out′
+      → InOrder (tableTold s cells) (toldText m p s cells flags) out e out′
+  tell-refused r q u = in-any-order (tableTold s cells) (toldText m p s cells flags) (refusalText (r .table) (r .number) 0) out e out′ (λ order. rw q) u
+
+  pub tell-none : (h : Automaton) (n : ℕ) → s ≡ made.NoController h n → Puts out 0 (sixOf false (h .states) n cells flags) e out′
+      → InOrder (tableTold s cells) (toldText m p s cells flags) out e out′
+  tell-none h n q u = in-any-order (tableTold s cells) (toldText m p s cells flags) (sixOf false (h .states) n cells flags) out e out′ (λ order. rw q) u
+
+  pub tell-yes : (h : Automaton) (n : ℕ) → s ≡ made.Controller h n
+      → WithText m p (table h cells) (sixOf true (h .states) n cells flags) out e out′
+      → InOrder (tableTold s cells) (toldText m p s cells flags) out e out′
+  tell-yes h n q i = in-order-same (i .told) (rw q) (λ order. rw q)
+
+-- ---- the two tables
+
+module _ (m p : List ℕ) (a b : Table) (cells flags cells′ flags′ : List ℕ) (s : Synthesis)
+    (replied : s ≡ synthesisReply a b (length cells) (length flags)) (cells-left : cells′ ≡ synthesisCells a b cells (length flags))
+    (flags-left : flags′ ≡ synthesisFlags a b (length cells) flags) (out : List ℕ) (e : ℕ) (out′ : List ℕ)
+    (told : InOrder (tableTold s cells′) (toldText m p s cells′ flags′) out e out′) where
+  abbrev checked : Checked
+  checked = first (synthesisChecks a b (length cells) (length flags))
+
+  abbrev t : Table
+  t = controller a b
+
+  abbrev text : (ℕ → List ℕ) → List ℕ
+  text = pairsText m p a b (length cells) (length flags)
+
+  module _ (r : Refusal) (no : checked ≡ Refused r) where
+    reply-refused : s ≡ made.Refused r
+    unfolding synthesisReply
+    reply-refused = replied ∙ rw no
+
+    refused-text : (order order′ : ℕ → List ℕ) → toldText m p s cells′ flags′ order ≡ text order′
+    unfolding pairsText
+    refused-text order order′ = rw (reply-refused, no)
+
+    refused-told : InOrder t text out e out′
+    refused-told = in-any-order t text (toldText m p s cells′ flags′ (told .order)) out e out′ (refused-text (told .order)) (told .ends, told .text)
+
+  module _ (yes : checked ≡ Accepted) where
+    cells-are : cells′ ≡ t .cells
+    unfolding synthesisCells
+    cells-are = cells-left ∙ rw yes
+
+    flags-are : flags′ ≡ synthesis a b .flags
+    unfolding synthesisFlags
+    flags-are = flags-left ∙ rw yes
+
+    decided : s ≡ decidedOf a b
+    unfolding synthesisReply
+    decided = replied ∙ rw yes
+
+    full : length (t .cells) ≡ t .header .states * 32
+    unfolding composition cellsOf
+    full = length-tabulate _ 0 (t .header .states * 32)
+
+    few : t .header .states ≤ 4096
+    few = checks-premises a b (length cells) (length flags) yes .few-pairs
+
+    -- The figures that are counted in the buffers are those of the table.
+    abbrev figured : Bool → List ℕ
+    figured v = figures v (t .header .states) (keptCount (synthesis a b .flags)) (synthesis a b .rounds) (stepCount t) (endCount t)
+
+    six : (v : Bool) → sixOf v (t .header .states) (synthesis a b .rounds) cells′ flags′ ≡ figured v
+    unfolding sixOf
+    six v =
+        let steps : stepsIn (t .header .states) cells′ ≡ stepCount t = ap (stepsIn (t .header .states)) cells-are ∙ steps-of-table t (omega (arith, few)) full in
+        let ends : endsIn (t .header .states) cells′ ≡ endCount t = ap (endsIn (t .header .states)) cells-are ∙ ends-of-table t (omega (arith, few)) full in
+        λ i. figures v (t .header .states) (keptCount (flags-are i)) (synthesis a b .rounds) (steps i) (ends i)
+
+    module _ (compatible : synthesis a b .compatible ≡ true) where
+      reply-yes : s ≡ made.Controller (t .header) (synthesis a b .rounds)
+      reply-yes = decided ∙ rw compatible
+
+      table-yes : tableTold s cells′ ≡ t
+      table-yes = rw (reply-yes, cells-are)
+
+      text-yes : (order : ℕ → List ℕ) → text order ≡ withText order m p t (figured true)
+      unfolding pairsText
+      text-yes order = rw (yes, compatible)
+
+      yes-told : InOrder t text out e out′
+      yes-told = in-order-same told table-yes (λ order.
+          (let z : toldText m p s cells′ flags′ order ≡ withText order m p (table (t .header) cells′) (sixOf true (t .header .states) (synthesis a b .rounds) cells′ flags′) = rw reply-yes in z)
+          ∙ (λ i. withText order m p (table (t .header) (cells-are i)) (six true i)) ∙ sym (text-yes order))
+
+    module _ (dropped : synthesis a b .compatible ≡ false) where
+      reply-none : s ≡ made.NoController (t .header) (synthesis a b .rounds)
+      reply-none = decided ∙ rw dropped
+
+      table-none : tableTold s cells′ ≡ t
+      table-none = rw (reply-none, cells-are)
+
+      text-none : (order : ℕ → List ℕ) → text order ≡ figured false
+      unfolding pairsText
+      text-none order = rw (yes, dropped)
+
+      none-told : InOrder t text out e out′
+      none-told = in-order-same told table-none (λ order.
+          (let z : toldText m p s cells′ flags′ order ≡ sixOf false (t .header .states) (synthesis a b .rounds) cells′ flags′ = rw reply-none in z)
+          ∙ six false ∙ sym (text-none order))
+
+  pub pairs-told : InOrder t text out e out′
+  pairs-told = by-check checked refl
+    where
+      by-verdict : checked ≡ Accepted → (v : Bool) → synthesis a b .compatible ≡ v → InOrder t text out e out′
+      by-verdict ok true q = yes-told ok q
+      by-verdict ok false q = none-told ok q
+
+      by-check : (k : Checked) → checked ≡ k → InOrder t text out e out′
+      by-check Accepted q = by-verdict q (synthesis a b .compatible) refl
+      by-check (Refused r) q = refused-told r q

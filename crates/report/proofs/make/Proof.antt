@@ -1,0 +1,34 @@
+use Rattle.report.proofs.Made.{pairs-told}
+use borrow.Author.Needs.{needs}
+use Rattle.report.proofs.make.Statement.{statement}
+use Rattle.report.proofs.make.Tie as tie
+use Rattle.report.proofs.make.Reads as reads
+use Rattle.report.proofs.make.Lts as lts
+use Rattle.report.proofs.tell.Reads as tell-reads
+use Rattle.synthesis.proofs.synthesize.Reads as synthesize-reads
+
+synthesize-requires : tie.Need-synthesize-requires
+synthesize-requires c κs = search needs
+
+tell-requires : tie.Need-tell-requires
+tell-requires c κs = search needs
+
+same-length : tie.Need-same-length
+same-length c = search needs
+
+same-length-2 : tie.Need-same-length-2
+same-length-2 c = search needs
+
+same-length-3 : tie.Need-same-length-3
+same-length-3 c = search needs
+
+returns : tie.Need-returns
+returns c =
+    let f = c .before .before in
+    let s = f .before .before .before .before .before .before .before .before .synthesize .ensures in
+    (pairs-told _ _ _ _ _ _ _ _ _ (s .0) (s .1 .0) (s .1 .1 .0) _ _ _ (f .tell .ensures), (s .1 .0, s .1 .1 .0))
+
+pub make-spec : {M : Type 1} → statement M
+make-spec =
+    tie.close
+    (tie.spec synthesize-requires tell-requires same-length same-length-2 same-length-3 returns)

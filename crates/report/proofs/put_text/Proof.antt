@@ -1,0 +1,81 @@
+use Rattle.report.proofs.Texts.{text-refused, text-within, text-follows}
+use borrow.Author.Needs.{needs}
+use Rattle.report.proofs.put_text.Statement.{statement}
+use Rattle.report.proofs.put_text.Tie as tie
+use Rattle.report.proofs.put_text.Reads as reads
+use Rattle.report.proofs.put_text.Lts as lts
+use Rattle.emit.proofs.put.Reads as put-reads
+use Rattle.report.proofs.lines.refusal_line.Reads as refusal-line-reads
+use Rattle.report.proofs.six_lines.Reads as six-lines-reads
+use Rattle.report.proofs.write_text.Reads as write-text-reads
+
+write-text-requires : tie.Need-write-text-requires
+write-text-requires c κs = search needs
+
+enum-known-r : tie.Need-enum-known-r
+enum-known-r c = search needs
+
+refusal-line-requires : tie.Need-refusal-line-requires
+refusal-line-requires c κs = search needs
+
+enum-known-n : tie.Need-enum-known-n
+enum-known-n c = search needs
+
+six-lines-requires : tie.Need-six-lines-requires
+six-lines-requires c κs = search needs
+
+sub-put : tie.Need-sub-put
+sub-put c = search needs
+
+part-put-start : tie.Need-part-put-start
+part-put-start c = search needs
+
+part-put-end : tie.Need-part-put-end
+part-put-end c = search (text-within, needs)
+
+put-requires : tie.Need-put-requires
+put-requires c κs = search needs
+
+same-length : tie.Need-same-length
+same-length c = search needs
+
+same-length-2 : tie.Need-same-length-2
+same-length-2 c = search needs
+
+returns : tie.Need-returns
+returns c = search (text-refused, needs)
+
+same-length-3 : tie.Need-same-length-3
+same-length-3 c = search needs
+
+same-length-4 : tie.Need-same-length-4
+same-length-4 c = search needs
+
+returns-2 : tie.Need-returns-2
+returns-2 c =
+    let f = c .before .before in
+    let s = f .before .before .before .before .before .before in
+    let k = s .before .before in
+    let w = k .before .before .before .before .before in
+    text-follows _ _ _ _ _ _ (w .before .before .before .before .before .before .before .before .pre) (w .write-text .ensures .0) (w .write-text .ensures .1) _ (k .before .n .given .1) _ _ _ _ _ _ (s .six-lines .ensures)
+    (f .put .ensures)
+
+pub put-text-spec : {M : Type 1} → statement M
+put-text-spec =
+    tie.close
+    (tie.spec
+    write-text-requires
+    enum-known-r
+    refusal-line-requires
+    enum-known-n
+    six-lines-requires
+    sub-put
+    part-put-start
+    part-put-end
+    put-requires
+    same-length
+    same-length-2
+    returns
+    same-length-3
+    same-length-4
+    returns-2)

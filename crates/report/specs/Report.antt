@@ -1,0 +1,141 @@
+-- What the bench program prints for two texts (01, "The program and one full run"). m is the module's text, p the plan's.
+use mathlib.Core.Path.{_≡_}
+use mathlib.Core.Bool.{Bool, cond}
+use mathlib.Core.List.{List, [], _∷_, _++_}
+use Prim.Native.Nat.{ℕ, _*_, _/_}
+use lib.Dec.{leb}
+use lib.ListN.{length, take, drop}
+use Rattle.theory.specs.declared.Automaton.{Automaton}
+use Rattle.theory.specs.Bounded.{tabulate}
+use Rattle.theory.specs.Table.{Table, table, synthesis, controller, keptCount, stepCount, endCount}
+use Rattle.theory.specs.Checks.{first, unlessRefused, synthesisChecks}
+use Rattle.text.specs.Reading.{Reading, Joint, both, neither, readBoth}
+use Rattle.text.specs.Writing.{decimal, printed, textWith, Order, writerChecks}
+use Rattle.text.specs.Lookup.{lookup}
+use Rattle.emit.specs.Buffer.{stored, after}
+
+-- ---- lines
+
+-- `verdict`.
+abbrev pub verdictWord : List ℕ
+verdictWord = 118 ∷ 101 ∷ 114 ∷ 100 ∷ 105 ∷ 99 ∷ 116 ∷ []
+
+-- `yes`.
+abbrev pub yesWord : List ℕ
+yesWord = 121 ∷ 101 ∷ 115 ∷ []
+
+-- `none`.
+abbrev pub noneWord : List ℕ
+noneWord = 110 ∷ 111 ∷ 110 ∷ 101 ∷ []
+
+-- `pairs`.
+abbrev pub pairsWord : List ℕ
+pairsWord = 112 ∷ 97 ∷ 105 ∷ 114 ∷ 115 ∷ []
+
+-- `kept`.
+abbrev pub keptWord : List ℕ
+keptWord = 107 ∷ 101 ∷ 112 ∷ 116 ∷ []
+
+-- `rounds`.
+abbrev pub roundsWord : List ℕ
+roundsWord = 114 ∷ 111 ∷ 117 ∷ 110 ∷ 100 ∷ 115 ∷ []
+
+-- `steps`.
+abbrev pub stepsWord : List ℕ
+stepsWord = 115 ∷ 116 ∷ 101 ∷ 112 ∷ 115 ∷ []
+
+-- `ends`.
+abbrev pub endsWord : List ℕ
+endsWord = 101 ∷ 110 ∷ 100 ∷ 115 ∷ []
+
+-- `refused`.
+abbrev pub refusedWord : List ℕ
+refusedWord = 114 ∷ 101 ∷ 102 ∷ 117 ∷ 115 ∷ 101 ∷ 100 ∷ []
+
+-- `sequencer`.
+abbrev pub sequencerWord : List ℕ
+sequencerWord = 115 ∷ 101 ∷ 113 ∷ 117 ∷ 101 ∷ 110 ∷ 99 ∷ 101 ∷ 114 ∷ []
+
+-- A refusal prints one line: file (1 module, 2 plan, 0 both or the result), number, line.
+unfoldable pub refusalText : ℕ → ℕ → ℕ → List ℕ
+refusalText file number line = printed ((refusedWord ∷ decimal file ∷ decimal number ∷ decimal line ∷ []) ∷ [])
+
+-- The six lines. Steps and ends are over all pairs, with either verdict.
+unfoldable pub figures : Bool → ℕ → ℕ → ℕ → ℕ → ℕ → List ℕ
+figures compatible pairs kept rounds steps ends = printed (
+    (verdictWord ∷ cond compatible yesWord noneWord ∷ []) ∷ (pairsWord ∷ decimal pairs ∷ []) ∷ (keptWord ∷ decimal kept ∷ [])
+    ∷ (roundsWord ∷ decimal rounds ∷ []) ∷ (stepsWord ∷ decimal steps ∷ []) ∷ (endsWord ∷ decimal ends ∷ []) ∷ [])
+
+-- ---- two tables
+
+-- Signals have the names that the two texts gave them.
+unfoldable pub signalNames : List ℕ → List ℕ → List (List ℕ)
+signalNames m p = tabulate (λ a. lookup m p a .name) 0 32
+
+-- The table that was read: the lent cells beyond it are no part of it.
+abbrev pub tableRead : Reading → Table
+tableRead r = table (r .header) (take (r .header .states * 32) (r .cells))
+
+-- The maker is given buffers of so many pairs: as many as there are, or as there is room for. More get 10, after 8 and 9.
+abbrev pub lentPairs : Table → Table → ℕ → ℕ
+lentPairs a b room = let n = a .header .states * b .header .states in cond (leb n room) n room
+
+module _ (order : ℕ → List ℕ) (m p : List ℕ) where
+  -- With yes the text of table `sequencer`, made in 65,536 bytes before anything is printed, follows the six lines.
+  unfoldable pub withText : Table → List ℕ → List ℕ
+  withText t six =
+      unlessRefused (first (writerChecks t sequencerWord (signalNames m p) 65536)) (λ r. refusalText (r .table) (r .number) 0)
+      (six ++ textWith order t sequencerWord (signalNames m p))
+
+  unfoldable pub madeText : Table → Table → ℕ → List ℕ
+  madeText a b room =
+      let n = lentPairs a b room in
+      let s = synthesis a b in
+      let t = controller a b in
+      let six = figures (s .compatible) (t .header .states) (keptCount (s .flags)) (s .rounds) (stepCount t) (endCount t) in
+      unlessRefused (first (synthesisChecks a b (n * 32) n)) (λ r. refusalText (r .table) (r .number) 0) (cond (s .compatible) (withText t six) six)
+
+  abbrev pub jointText : ℕ → Joint → List ℕ
+  jointText room (both x y) = madeText (tableRead x) (tableRead y) room
+  jointText room (neither r) = refusalText (r .text) (r .number) (r .line)
+
+  -- All that is printed, with lent cells for so many states of each table and a result of so many pairs.
+  unfoldable pub reportWith : ℕ → ℕ → ℕ → List ℕ
+  reportWith cells cells′ pairs = jointText pairs (readBoth cells m cells′ p)
+
+-- The room for a result: cells for so many pairs, and a flag for each.
+abbrev pub roomOf : ℕ → ℕ → ℕ
+roomOf cells flags = cond (leb (cells / 32) flags) (cells / 32) flags
+
+-- The table whose text is printed; the order of its steps within a state is what 01 leaves open.
+abbrev pub printedTable : Joint → Table
+printedTable (both x y) = controller (tableRead x) (tableRead y)
+printedTable (neither r) = table (record { states = 0; initial = 0; inputs = 0; outputs = 0 }) []
+
+-- The contract of the bytes: in some such order, from the first byte on; bytes past the report stay.
+pub record Reported (m p : List ℕ) (cells cells′ pairs : ℕ) (bytes : List ℕ) (end : ℕ) (bytes′ : List ℕ) : Type 0 where
+  pub order : ℕ → List ℕ
+  pub each-once : Order (printedTable (readBoth cells m cells′ p)) order
+  pub text : bytes′ ≡ stored bytes 0 (reportWith order m p cells cells′ pairs)
+  pub ends : end ≡ after (length bytes) 0 (reportWith order m p cells cells′ pairs)
+
+-- ---- what is left in the maker's buffers: beyond the lent part, and after a refusal, they are as they were
+
+module _ (a b : Table) where
+  unfoldable pub cellsMade : List ℕ → ℕ → List ℕ
+  cellsMade cells flags =
+      let n = lentPairs a b (roomOf (length cells) flags) in
+      unlessRefused (first (synthesisChecks a b (n * 32) n)) (λ r. cells) (synthesis a b .cells ++ drop (n * 32) cells)
+
+  unfoldable pub flagsMade : ℕ → List ℕ → List ℕ
+  flagsMade cells flags =
+      let n = lentPairs a b (roomOf cells (length flags)) in
+      unlessRefused (first (synthesisChecks a b (n * 32) n)) (λ r. flags) (synthesis a b .flags ++ drop n flags)
+
+abbrev pub cellsLeft : List ℕ → ℕ → Joint → List ℕ
+cellsLeft cells flags (both x y) = cellsMade (tableRead x) (tableRead y) cells flags
+cellsLeft cells flags (neither r) = cells
+
+abbrev pub flagsLeft : ℕ → List ℕ → Joint → List ℕ
+flagsLeft cells flags (both x y) = flagsMade (tableRead x) (tableRead y) cells flags
+flagsLeft cells flags (neither r) = flags

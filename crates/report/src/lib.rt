@@ -1,0 +1,245 @@
+// All that the bench program prints for two readable files (document 01, "The program and one full run"), made in a lent buffer.
+ghost use mathlib.Core.Path.{_≡_};
+ghost use mathlib.Core.Bool.{true};
+ghost use Prim.Native.Nat.{_*_, _≤_};
+ghost use lib.ListN.{length, take};
+ghost use Rattle.theory.specs.Table.{table, controller};
+ghost use Rattle.text.specs.Reading.{readBoth, cellsFirst, cellsSecond};
+ghost use Rattle.text.specs.Writing.{Written};
+ghost use Rattle.emit.specs.Buffer.{after, stored};
+ghost use Rattle.writer.specs.Replies.{writerReply};
+ghost use Rattle.synthesis.specs.Replies.{synthesisCells, synthesisFlags};
+ghost use Rattle.report.specs.Report.{sequencerWord, signalNames, roomOf, Reported, cellsLeft, flagsLeft};
+ghost use Rattle.report.specs.Parts.{lesserOf, sixOf, InOrder, WithText, tableTold, toldText, pairsText, Holds, Makes};
+use reader::Together;
+use synthesis::Synthesis;
+use theory::Automaton;
+use writer::Printed;
+
+mod lines;
+
+pub use lines::refusal_line;
+
+// The text of table `sequencer`, with the names that the two texts gave the signals.
+fn write_text<'a>(
+    m: &'a [u8],
+    p: &'a [u8],
+    header: Automaton,
+    cells: &[u16],
+    text: &mut [u8],
+) -> Printed
+    ensures { λ r. ⌜ r ≡ writerReply (table header (now (cells .entry))) sequencerWord (signalNames (now (m .entry)) (now (p .entry))) (length (now (text .entry))) ⌝ }
+    ensures { λ r. ⌜ Written (table header (now (cells .entry))) sequencerWord (signalNames (now (m .entry)) (now (p .entry))) (now (text .entry)) (now (text .exit)) ⌝ }
+{
+    let names = [
+        lookup::name(m, p, 0),
+        lookup::name(m, p, 1),
+        lookup::name(m, p, 2),
+        lookup::name(m, p, 3),
+        lookup::name(m, p, 4),
+        lookup::name(m, p, 5),
+        lookup::name(m, p, 6),
+        lookup::name(m, p, 7),
+        lookup::name(m, p, 8),
+        lookup::name(m, p, 9),
+        lookup::name(m, p, 10),
+        lookup::name(m, p, 11),
+        lookup::name(m, p, 12),
+        lookup::name(m, p, 13),
+        lookup::name(m, p, 14),
+        lookup::name(m, p, 15),
+        lookup::name(m, p, 16),
+        lookup::name(m, p, 17),
+        lookup::name(m, p, 18),
+        lookup::name(m, p, 19),
+        lookup::name(m, p, 20),
+        lookup::name(m, p, 21),
+        lookup::name(m, p, 22),
+        lookup::name(m, p, 23),
+        lookup::name(m, p, 24),
+        lookup::name(m, p, 25),
+        lookup::name(m, p, 26),
+        lookup::name(m, p, 27),
+        lookup::name(m, p, 28),
+        lookup::name(m, p, 29),
+        lookup::name(m, p, 30),
+        lookup::name(m, p, 31),
+    ];
+    writer::write(header, cells, b"sequencer", &names, text)
+}
+
+// The six lines over what the maker left in its buffers.
+fn six_lines(
+    out: &mut [u8],
+    compatible: bool,
+    states: usize,
+    rounds: usize,
+    cells: &[u16],
+    flags: &[u8],
+) -> usize
+    ensures { λ r. ⌜ r ≡ after (length (now (out .entry))) 0 (sixOf compatible states rounds (now (cells .entry)) (now (flags .entry))) ⌝ }
+    ensures { λ r. ⌜ now (out .exit) ≡ stored (now (out .entry)) 0 (sixOf compatible states rounds (now (cells .entry)) (now (flags .entry))) ⌝ }
+{
+    let kept = counts::count_kept(flags);
+    let steps = counts::count_steps(states, cells);
+    let ends = counts::count_ends(states, cells);
+    lines::figures(out, compatible, states, kept, rounds, steps, ends)
+}
+
+// The six lines and the text, which is made before anything is printed; or why there is no text.
+fn put_text<'a>(
+    m: &'a [u8],
+    p: &'a [u8],
+    header: Automaton,
+    rounds: usize,
+    cells: &[u16],
+    flags: &[u8],
+    text: &mut [u8],
+    out: &mut [u8],
+) -> usize
+    requires { ⌜ length (now text) ≡ 65536 ⌝ }
+    ensures { λ r. ⌜ WithText (now (m .entry)) (now (p .entry)) (table header (now (cells .entry))) (sixOf true (header .states) rounds (now (cells .entry)) (now (flags .entry))) (now (out .entry)) r (now (out .exit)) ⌝ }
+{
+    match write_text(m, p, header, cells, text) {
+        Printed::Refused(r) => refusal_line(out, 0, r.table, r.number, 0),
+        Printed::Length(n) => {
+            let at = six_lines(out, true, header.states, rounds, cells, flags);
+            emit::put(out, at, &text[0..n])
+        }
+    }
+}
+
+// The same with a buffer of its own for the text.
+fn with_text<'a>(
+    m: &'a [u8],
+    p: &'a [u8],
+    header: Automaton,
+    rounds: usize,
+    cells: &[u16],
+    flags: &[u8],
+    out: &mut [u8],
+) -> usize
+    ensures { λ r. ⌜ WithText (now (m .entry)) (now (p .entry)) (table header (now (cells .entry))) (sixOf true (header .states) rounds (now (cells .entry)) (now (flags .entry))) (now (out .entry)) r (now (out .exit)) ⌝ }
+{
+    let mut text = [0u8; 65536];
+    put_text(m, p, header, rounds, cells, flags, &mut text, out)
+}
+
+// What is printed of the maker's reply.
+fn tell<'a>(
+    m: &'a [u8],
+    p: &'a [u8],
+    reply: Synthesis,
+    cells: &[u16],
+    flags: &[u8],
+    out: &mut [u8],
+) -> usize
+    ensures { λ r. ⌜ InOrder (tableTold reply (now (cells .entry))) (toldText (now (m .entry)) (now (p .entry)) reply (now (cells .entry)) (now (flags .entry))) (now (out .entry)) r (now (out .exit)) ⌝ }
+{
+    match reply {
+        Synthesis::Controller { header, rounds } => with_text(
+            m,
+            p,
+            header,
+            rounds,
+            cells,
+            flags,
+            out,
+        ),
+        Synthesis::NoController { header, rounds } => {
+            six_lines(out, false, header.states, rounds, cells, flags)
+        }
+        Synthesis::Refused(r) => refusal_line(out, 0, r.table, r.number, 0),
+    }
+}
+
+// Makes the sequencer of the two tables in lent buffers, and tells of it.
+fn make<'a>(
+    m: &'a [u8],
+    p: &'a [u8],
+    a: Automaton,
+    ca: &[u16],
+    b: Automaton,
+    cb: &[u16],
+    cells: &mut [u16],
+    flags: &mut [u8],
+    out: &mut [u8],
+) -> usize
+    ensures { λ r. ⌜ InOrder (controller (table a (now (ca .entry))) (table b (now (cb .entry)))) (pairsText (now (m .entry)) (now (p .entry)) (table a (now (ca .entry))) (table b (now (cb .entry))) (length (now (cells .entry))) (length (now (flags .entry)))) (now (out .entry)) r (now (out .exit)) ⌝ }
+    ensures { λ r. ⌜ now (cells .exit) ≡ synthesisCells (table a (now (ca .entry))) (table b (now (cb .entry))) (now (cells .entry)) (length (now (flags .entry))) ⌝ }
+    ensures { λ r. ⌜ now (flags .exit) ≡ synthesisFlags (table a (now (ca .entry))) (table b (now (cb .entry))) (length (now (cells .entry))) (now (flags .entry)) ⌝ }
+{
+    let reply = synthesis::synthesize(a, ca, b, cb, cells, flags);
+    tell(m, p, reply, cells, flags, out)
+}
+
+fn lesser(a: usize, b: usize) -> usize
+    ensures { λ r. ⌜ r ≡ lesserOf a b ⌝ }
+{
+    if a <= b {
+        return a;
+    }
+    b
+}
+
+// The same, where the cells of the two tables may stand in longer buffers. The maker is lent as many pairs as there are, or as there is room for.
+fn make_in<'a>(
+    m: &'a [u8],
+    p: &'a [u8],
+    a: Automaton,
+    ca: &[u16],
+    b: Automaton,
+    cb: &[u16],
+    cells: &mut [u16],
+    flags: &mut [u8],
+    out: &mut [u8],
+) -> usize
+    requires { ⌜ Holds a (now ca) ⌝ }
+    requires { ⌜ Holds b (now cb) ⌝ }
+    ensures { λ r. ⌜ Makes (now (m .entry)) (now (p .entry)) (table a (take (a .states * 32) (now (ca .entry)))) (table b (take (b .states * 32) (now (cb .entry)))) (now (cells .entry)) (now (flags .entry)) (now (out .entry)) r (now (cells .exit)) (now (flags .exit)) (now (out .exit)) ⌝ }
+{
+    let room = lesser(cells.len() / 32, flags.len());
+    let n = lesser(a.states * b.states, room);
+    let ends = n * 32;
+    let ea = a.states * 32;
+    let eb = b.states * 32;
+    make(
+        m,
+        p,
+        a,
+        &ca[0..ea],
+        b,
+        &cb[0..eb],
+        &mut cells[0..ends],
+        &mut flags[0..n],
+        out,
+    )
+}
+
+// Reads the module's and the plan's text, makes the sequencer, and writes what is to be printed; returns where that ends, one past the
+// buffer's end if it did not fit. That is 65,608 at most: 72 bytes for the six lines, 65,536 for the text. The four cell and flag buffers are
+// the program's.
+pub fn report<'a>(
+    m: &'a [u8],
+    p: &'a [u8],
+    cm: &mut [u16],
+    cp: &mut [u16],
+    cells: &mut [u16],
+    flags: &mut [u8],
+    out: &mut [u8],
+) -> usize
+    ensures { λ r. ⌜ Reported (now (m .entry)) (now (p .entry)) (length (now (cm .entry))) (length (now (cp .entry))) (roomOf (length (now (cells .entry))) (length (now (flags .entry)))) (now (out .entry)) r (now (out .exit)) ⌝ }
+    ensures { λ r. ⌜ now (cm .exit) ≡ cellsFirst (length (now (cm .entry))) (readBoth (length (now (cm .entry))) (now (m .entry)) (length (now (cp .entry))) (now (p .entry))) ⌝ }
+    ensures { λ r. ⌜ now (cp .exit) ≡ cellsSecond (length (now (cp .entry))) (readBoth (length (now (cm .entry))) (now (m .entry)) (length (now (cp .entry))) (now (p .entry))) ⌝ }
+    ensures { λ r. ⌜ now (cells .exit) ≡ cellsLeft (now (cells .entry)) (length (now (flags .entry))) (readBoth (length (now (cm .entry))) (now (m .entry)) (length (now (cp .entry))) (now (p .entry))) ⌝ }
+    ensures { λ r. ⌜ now (flags .exit) ≡ flagsLeft (length (now (cells .entry))) (now (flags .entry)) (readBoth (length (now (cm .entry))) (now (m .entry)) (length (now (cp .entry))) (now (p .entry))) ⌝ }
+    ensures { λ r. ⌜ r ≤ 65608 ⌝ }
+{
+    match reader::read_together(m, p, cm, cp) {
+        Together::Refused(r) => refusal_line(out, 0, r.text, r.number, r.line),
+        Together::Tables {
+            component,
+            specification,
+        } => make_in(m, p, component, cm, specification, cp, cells, flags, out),
+    }
+}

@@ -1,0 +1,9 @@
+pub mod Names
+pub mod Lines
+pub mod Left
+pub mod Rows
+pub mod Declarations
+pub mod Steps
+pub mod Trip
+pub mod Same
+pub mod Theorem

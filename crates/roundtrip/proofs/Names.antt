@@ -1,0 +1,177 @@
+-- The numbers of names: their places among the different names so far.
+use mathlib.Core.Path.{_≡_, refl, sym, ap, _∙_}
+use mathlib.Core.Bool.{Bool, true, false, cond}
+use mathlib.Core.List.{List, [], _∷_, _++_, map, append-nil, append-assoc, map-append}
+use Prim.Native.Nat.{ℕ, suc, _≤_, _<_}
+use native.Mathlib.Omega.{arith}
+use native.Mathlib.Decide.{decLt, ℕ-discrete}
+use lib.Dec.{ltb}
+use lib.ListN.{length, getD, length-append, length-map}
+use borrow.Author.Tests.{eq-eqb, ne-eqb, lt-ltb, le-ltb}
+use Rattle.text.specs.Fields.{same}
+use Rattle.text.specs.Reading.{Signal, indexOf, known}
+use Rattle.text.specs.Writing.{occurrences}
+use Rattle.text.proofs.Names.{same-self, same-eq, same-not, index-le, index-append, index-put}
+use Rattle.text.proofs.Occurrences.{occurrences-nil, occurrences-here, occurrences-other, occurrences-more}
+use Rattle.roundtrip.specs.RoundTrip.{rank, place, with, different}
+
+-- ---- the place of a name
+
+signal : List ℕ → Signal
+signal n = record { name = n; text = 0; from = 0 }
+
+-- It is the number that the name has among signals.
+place-index : (n : List ℕ) (l : List (List ℕ)) → place n l ≡ indexOf n (map signal l)
+unfolding signal indexOf place
+place-index n [] = refl
+place-index n (m ∷ l) = rw (place-index n l)
+
+place-le : (n : List ℕ) (l : List (List ℕ)) → place n l ≤ length l
+place-le n l = omega (arith, place-index n l, index-le n (map signal l), length-map l signal)
+
+place-append : (n : List ℕ) (l m : List (List ℕ)) → place n l < length l → place n (l ++ m) ≡ place n l
+place-append n l m h =
+    rw (place-index n (l ++ m), place-index n l, map-append signal l m)
+    (index-append n (map signal l) (map signal m) (omega (arith, place-index n l, length-map l signal)))
+
+place-put : (n : List ℕ) (l : List (List ℕ)) → place n (l ++ n ∷ []) ≡ place n l
+unfolding signal
+place-put n l = rw (place-index n (l ++ n ∷ []), place-index n l, map-append signal l (n ∷ [])) (index-put (signal n) (map signal l))
+
+-- The name at a place.
+pub place-name : (n : List ℕ) (l : List (List ℕ)) → place n l < length l → getD l (place n l) [] ≡ n
+unfolding place
+place-name n [] h = absurd (omega arith)
+place-name n (m ∷ l) h = go (same m n) refl (place-name n l) h
+  where
+    go : (b : Bool) → same m n ≡ b → (place n l < length l → getD l (place n l) [] ≡ n) → cond b 0 (suc (place n l)) < suc (length l)
+        → getD (m ∷ l) (cond b 0 (suc (place n l))) [] ≡ n
+    go true e ih h = same-eq m n e
+    go false e ih h = ih (omega arith)
+
+-- Another one put behind does not give it one.
+pub place-other : (n m : List ℕ) (l : List (List ℕ)) → ¬ (m ≡ n) → length l ≤ place n l → length (l ++ m ∷ []) ≤ place n (l ++ m ∷ [])
+unfolding place
+place-other n m [] d h = rw (same-not m n d) (omega arith)
+place-other n m (x ∷ l) d h = go (same x n) (place-other n m l d) h
+  where
+    go : (b : Bool) → (length l ≤ place n l → length (l ++ m ∷ []) ≤ place n (l ++ m ∷ [])) → suc (length l) ≤ cond b 0 (suc (place n l))
+        → suc (length (l ++ m ∷ [])) ≤ cond b 0 (suc (place n (l ++ m ∷ [])))
+    go true ih h = absurd (omega arith)
+    go false ih h = omega (arith, ih (omega arith))
+
+-- ---- with one more name
+
+pub with-place : (n : List ℕ) (l : List (List ℕ)) → place n (with l n) ≡ place n l
+with-place n l = elim (decLt (place n l) (length l)) [
+  | yes h ↦ rw (lt-ltb (place n l) (length l) h)
+  | no g ↦ rw (le-ltb (place n l) (length l) (omega arith)) (place-put n l)
+]
+
+pub with-within : (n : List ℕ) (l : List (List ℕ)) → place n (with l n) < length (with l n)
+with-within n l = elim (decLt (place n l) (length l)) [
+  | yes h ↦ rw (lt-ltb (place n l) (length l) h) h
+  | no g ↦ rw (le-ltb (place n l) (length l) (omega arith)) (omega (arith, place-put n l, place-le n l, length-append l (n ∷ [])))
+]
+
+with-new : (n : List ℕ) (l : List (List ℕ)) → length l ≤ place n l → with l n ≡ l ++ n ∷ []
+with-new n l h = rw (le-ltb (place n l) (length l) h)
+
+-- A list is a beginning of the other.
+pub record Begins (l m : List (List ℕ)) : Type 0 where
+  pub rest : List (List ℕ)
+  pub whole : m ≡ l ++ rest
+
+with-begins : (n : List ℕ) (l : List (List ℕ)) → Begins l (with l n)
+with-begins n l = go (ltb (place n l) (length l))
+  where
+    go : (b : Bool) → Begins l (cond b l (l ++ n ∷ []))
+    go true = record { rest = []; whole = sym (append-nil l) }
+    go false = record { rest = n ∷ []; whole = refl }
+
+pub different-begins : (l ns : List (List ℕ)) → Begins l (different l ns)
+unfolding different
+different-begins l [] = record { rest = []; whole = sym (append-nil l) }
+different-begins l (n ∷ ns) =
+    let u = with-begins n l in
+    let v = different-begins (with l n) ns in
+    record { rest = u .rest ++ v .rest; whole = v .whole ∙ ap (λ k. k ++ v .rest) (u .whole) ∙ append-assoc l (u .rest) (v .rest) }
+
+pub begins-place : {l m : List (List ℕ)} → Begins l m → (n : List ℕ) → place n l < length l → (place n m ≡ place n l) × (place n m < length m)
+begins-place {l} {m} w n h =
+    let e : place n m ≡ place n l = rw (w .whole) (place-append n l (w .rest) h) in
+    (e, omega (arith, ap length (w .whole), length-append l (w .rest)))
+
+-- A name's number is the place that it has, or that it gets, when it comes.
+pub number-first : (n : List ℕ) (l ns : List (List ℕ)) → place n (different l (n ∷ ns)) ≡ place n l
+unfolding different
+number-first n l ns = begins-place (different-begins (with l n) ns) n (with-within n l) .0 ∙ with-place n l
+
+-- Each of the names has one.
+pub number-within : (nm : ℕ → List ℕ) (a : ℕ) (ds : List ℕ) (l : List (List ℕ)) → 0 < occurrences a ds
+    → place (nm a) (different l (map nm ds)) < length (different l (map nm ds))
+unfolding different
+number-within nm a [] l h = absurd (omega (arith, occurrences-nil a))
+number-within nm a (d ∷ ds) l h = elim (ℕ-discrete d a) [
+  | yes e ↦ rw (← e) (begins-place (different-begins (with l (nm d)) (map nm ds)) (nm d) (with-within (nm d) l) .1)
+  | no n ↦ number-within nm a ds (with l (nm d)) (omega (arith, occurrences-other a d ds n))
+]
+
+-- ---- distinct names: all are new, and the number of a name is its signal's rank
+
+module _ (nm : ℕ → List ℕ) where
+  -- The signals of a list stand there once, and no two have the same name.
+  pub record Distinct (ds : List ℕ) : Type 0 where
+    pub once : (a : ℕ) → occurrences a ds ≤ 1
+    pub apart : (a b : ℕ) → 0 < occurrences a ds → 0 < occurrences b ds → nm a ≡ nm b → a ≡ b
+
+  distinct-tail : (d : ℕ) (ds : List ℕ) → Distinct (d ∷ ds) → Distinct ds
+  distinct-tail d ds w = record {
+    once = λ a. omega (arith, w .once a, occurrences-more a d ds);
+    apart = λ a b h k. w .apart a b (omega (arith, occurrences-more a d ds)) (omega (arith, occurrences-more b d ds));
+  }
+
+  distinct-other : (d a : ℕ) (ds : List ℕ) → Distinct (d ∷ ds) → 0 < occurrences a ds → ¬ (nm d ≡ nm a)
+  distinct-other d a ds w h e =
+      let q : d ≡ a = w .apart d a (omega (arith, occurrences-here d ds)) (omega (arith, occurrences-more a d ds)) e in
+      omega (arith, w .once d, occurrences-here d ds, ap (λ x. occurrences x ds) q)
+
+  all-new : (ds : List ℕ) (l : List (List ℕ)) → Distinct ds → ((a : ℕ) → 0 < occurrences a ds → length l ≤ place (nm a) l)
+      → different l (map nm ds) ≡ l ++ map nm ds
+  unfolding different
+  all-new [] l w n = sym (append-nil l)
+  all-new (d ∷ ds) l w n =
+      ap (λ k. different k (map nm ds)) (with-new (nm d) l (n d (omega (arith, occurrences-here d ds))))
+      ∙ all-new ds (l ++ nm d ∷ []) (distinct-tail d ds w)
+      (λ a h. place-other (nm a) (nm d) l (distinct-other d a ds w h) (n a (omega (arith, occurrences-more a d ds))))
+      ∙ append-assoc l (nm d ∷ []) (map nm ds)
+
+  pub different-distinct : (ds : List ℕ) → Distinct ds → different [] (map nm ds) ≡ map nm ds
+  different-distinct ds w = all-new ds [] w (λ a h. omega arith)
+
+  pub rank-place : (a : ℕ) (ds : List ℕ) → Distinct ds → 0 < occurrences a ds → place (nm a) (map nm ds) ≡ rank a ds
+  unfolding place rank
+  rank-place a [] w h = refl
+  rank-place a (d ∷ ds) w h = elim (ℕ-discrete d a) [
+    | yes e ↦ rw (e, same-self (nm a), eq-eqb a a refl)
+    | no n ↦
+        let late : 0 < occurrences a ds = omega (arith, occurrences-other a d ds n) in
+        rw (same-not (nm d) (nm a) (distinct-other d a ds w late), ne-eqb d a n) (ap suc (rank-place a ds (distinct-tail d ds w) late))
+  ]
+
+-- ---- signals by their names
+
+abbrev pub namesIn : List Signal → List (List ℕ)
+namesIn l = map (λ s. s .name) l
+
+pub index-place : (n : List ℕ) (l : List Signal) → indexOf n l ≡ place n (namesIn l)
+unfolding indexOf place
+index-place n [] = refl
+index-place n (s ∷ l) = rw (index-place n l)
+
+pub known-names : (l : List Signal) (s : Signal) → namesIn (known l s (indexOf (s .name) l)) ≡ with (namesIn l) (s .name)
+known-names l s = rw (← index-place (s .name) l, length-map l (λ s. s .name)) (go (ltb (indexOf (s .name) l) (length l)))
+  where
+    go : (b : Bool) → namesIn (cond b l (l ++ s ∷ [])) ≡ cond b (namesIn l) (namesIn l ++ s .name ∷ [])
+    go true = refl
+    go false = map-append (λ s. s .name) l (s ∷ [])

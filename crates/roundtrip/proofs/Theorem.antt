@@ -1,0 +1,238 @@
+-- The round trip (the letter's demand 2), alone and together: all that the writer takes is read back the same, name for name, whatever order the
+-- steps of a state have.
+use mathlib.Core.Path.{_≡_, refl, sym, ap, _∙_}
+use mathlib.Core.Logic.{_↔_}
+use mathlib.Core.Bool.{true, _||_}
+use mathlib.Core.List.{List, []}
+use Prim.Native.Nat.{ℕ, _*_, _≤_, _<_}
+use native.Mathlib.Omega.{arith}
+use lib.Dec.{T}
+use lib.ListN.{length, getD, length-map, List·getD-map, take, drop}
+use lib.Seq.{take-at}
+use Rattle.theory.specs.declared.Checked.the-variants.{Accepted}
+use Rattle.theory.specs.Table.{Table}
+use Rattle.theory.specs.Checks.{first, declared}
+use Rattle.theory.specs.Valid.{Valid}
+use Rattle.theory.proofs.Tests.{or-left, or-right}
+use Rattle.text.specs.Reading.{Reading, finished, readAlone, both, afterFirst, afterSecond, readBoth}
+use Rattle.text.specs.Writing.{signals, nameOf, textWith, Order, writerChecks, textLength, bytesWith, Written}
+use Rattle.text.specs.Lookup.{ample, nobody, declares, lookup, lookupNumber, lookupAlone, lookupNumberAlone}
+use Rattle.text.proofs.Occurrences.{those-few}
+use Rattle.text.proofs.Lengths.{text-length}
+use Rattle.text.proofs.Entries.{is-true}
+use Rattle.text.proofs.Accepted.{Sound, accepted, accepted-valid}
+use Rattle.roundtrip.specs.RoundTrip.{tableRead, rank, rankOf, RoundTrip, namesOf, place, different, allNames, JointTrip}
+use Rattle.roundtrip.proofs.Names.{place-name, different-begins, begins-place, number-within, different-distinct, rank-place, namesIn}
+use Rattle.roundtrip.proofs.Rows.{Writable, writable}
+use Rattle.roundtrip.proofs.Declarations.{numberIn, Numbered}
+use Rattle.roundtrip.proofs.Same.{copy-declares, copy-name, copy-same}
+use Rattle.roundtrip.proofs.Trip.{signals-distinct, declared-in, Copy, trip-from}
+
+-- ---- a text alone
+
+module _ (t : Table) (name : List ℕ) (names : List (List ℕ)) (w : Writable t name names) where
+  signals-few : length (namesOf t names) ≤ 32
+  unfolding signals
+  signals-few = omega (arith, length-map (signals t) (nameOf names), those-few (declared t) 0 32)
+
+  all-new : different [] (namesOf t names) ≡ namesOf t names
+  all-new = different-distinct (nameOf names) (signals t) (signals-distinct t w)
+
+  alone-numbered : Numbered t names (namesOf t names)
+  alone-numbered = record {
+    within = λ a d. rw all-new at (number-within (nameOf names) a (signals t) [] (declared-in t a d));
+    few = signals-few;
+  }
+
+  rank-number : (a : ℕ) → T (declared t a) → rank a (signals t) ≡ numberIn names (namesOf t names) a
+  rank-number a d = sym (rank-place (nameOf names) a (signals t) (signals-distinct t w) (declared-in t a d))
+
+  module _ (order : ℕ → List ℕ) (o : Order t order) where
+    read-alone : (cells : ℕ) → t .header .states * 32 ≤ cells
+        → (st : Reading) × (readAlone cells (textWith order t name names) ≡ finished st) × Copy t names (namesOf t names) st
+    unfolding readAlone
+    read-alone cells fits =
+        let few : length (different [] (namesOf t names)) ≤ 32 = rw all-new signals-few in
+        rw all-new at (trip-from t name names w order o [] 1 cells fits few)
+
+    -- Looking a number up.
+    found-alone : (a : ℕ) → T (declared t a)
+        → (lookupAlone (textWith order t name names) (rank a (signals t)) .name ≡ nameOf names a)
+        × (lookupNumberAlone (textWith order t name names) (rank a (signals t)) ≡ 0)
+    unfolding lookupAlone lookupNumberAlone
+    found-alone a d =
+        let (st, e, c) = read-alone ample (omega (arith, w .valid .few-states)) in
+        let i = numberIn names (namesOf t names) a in
+        let h : declares st i ≡ true = is-true (declares st i) (copy-declares t names (namesOf t names) alone-numbered st c a d) in (
+          rw (e, rank-number a d, h) (copy-name t names (namesOf t names) alone-numbered st c a d),
+          rw (e, rank-number a d, h),
+        )
+
+    trip : (cells : ℕ) → t .header .states * 32 ≤ cells → RoundTrip t names cells (textWith order t name names)
+    unfolding readAlone
+    trip cells fits =
+        let (st, e, c) = read-alone cells fits in
+        record {
+          reading = st;
+          read = e;
+          again = record {
+            valid = accepted-valid [] cells st (accepted [] 1 cells (textWith order t name names) st (omega arith) e);
+            same =
+                copy-same t names (namesOf t names) alone-numbered st c (λ b. lookupAlone (textWith order t name names) b .name) (rankOf t)
+                rank-number (λ a d. found-alone a d .0);
+            found = λ a d. found-alone a d .1;
+          };
+        }
+
+-- All that the writer takes is read back, in whatever order it writes the steps of a state.
+pub round-trip : (t : Table) (name : List ℕ) (names : List (List ℕ)) (room : ℕ) → first (writerChecks t name names room) ≡ Accepted
+    → (order : ℕ → List ℕ) → Order t order → (cells : ℕ) → t .header .states * 32 ≤ cells → RoundTrip t names cells (textWith order t name names)
+round-trip t name names room e order o cells fits = trip t name names (writable t name names room e) order o cells fits
+
+-- ---- a module's and a plan's text together
+
+module _ (m : Table) (name : List ℕ) (names : List (List ℕ)) (w : Writable m name names) (order : ℕ → List ℕ) (o : Order m order)
+    (p : Table) (name′ : List ℕ) (names′ : List (List ℕ)) (w′ : Writable p name′ names′) (order′ : ℕ → List ℕ) (o′ : Order p order′)
+    (few : length (allNames m names p names′) ≤ 32) where
+  abbrev all : List (List ℕ)
+  all = allNames m names p names′
+
+  abbrev text : List ℕ
+  text = textWith order m name names
+
+  abbrev text′ : List ℕ
+  text′ = textWith order′ p name′ names′
+
+  second-numbered : Numbered p names′ all
+  second-numbered = record { within = λ b d. number-within (nameOf names′) b (signals p) (namesOf m names) (declared-in p b d); few = few }
+
+  -- The module's names keep their places among all.
+  first-place : (a : ℕ) → T (declared m a) → (numberIn names all a ≡ rank a (signals m)) × (numberIn names all a < length all)
+  first-place a d =
+      let (e, l) = begins-place (different-begins (namesOf m names) (namesOf p names′)) (nameOf names a) (alone-numbered m name names w .within a d) in
+      (e ∙ sym (rank-number m name names w a d), l)
+
+  record Readings (cells cells′ : ℕ) : Type 0 where
+    first : Reading
+    second : Reading
+    read : readBoth cells text cells′ text′ ≡ both first second
+    first-copy : Copy m names (namesOf m names) first
+    second-copy : Copy p names′ all second
+    first-valid : Valid (tableRead first)
+    second-valid : Valid (tableRead second)
+
+  read-both : (cells cells′ : ℕ) → m .header .states * 32 ≤ cells → p .header .states * 32 ≤ cells′ → Readings cells cells′
+  unfolding readBoth readAlone
+  read-both cells cells′ fits fits′ =
+      let (x, e, c) = read-alone m name names w order o cells fits in
+      let few′ : length (different (namesIn (x .signals)) (namesOf p names′)) ≤ 32 = rw (c .listed) few in
+      let (y, f, d) = trip-from p name′ names′ w′ order′ o′ (x .signals) 2 cells′ fits′ few′ in
+      let u : Sound [] cells x = accepted [] 1 cells text x (omega arith) e in
+      record {
+        first = x;
+        second = y;
+        read = ap (afterFirst cells′ text′) e ∙ ap (afterSecond x) f;
+        first-copy = c;
+        second-copy = rw (c .listed) at d;
+        first-valid = accepted-valid [] cells x u;
+        second-valid = accepted-valid (x .signals) cells′ y (accepted (x .signals) 2 cells′ text′ y (u .few-signals) f);
+      }
+
+  -- Looking up a number that is declared gives the name that stands there.
+  abbrev Found : ℕ → List ℕ → Type 0
+  Found b n = (lookup text text′ b .name ≡ n) × (lookupNumber text text′ b ≡ 0)
+
+  ample-readings : Readings ample ample
+  ample-readings = read-both ample ample (omega (arith, w .valid .few-states)) (omega (arith, w′ .valid .few-states))
+
+  found-both : (r : Readings ample ample) (b : ℕ) → T (declares (r .first) b || declares (r .second) b) → Found b (getD all b [])
+  unfolding lookup lookupNumber
+  found-both r b d =
+      let h : (declares (r .first) b || declares (r .second) b) ≡ true = is-true (declares (r .first) b || declares (r .second) b) d in (
+        rw (r .read, h) (sym (List·getD-map (λ s. s .name) (r .second .signals) b nobody) ∙ ap (λ l. getD l b []) (r .second-copy .listed)),
+        rw (r .read, h),
+      )
+
+  found-first : (a : ℕ) → T (declared m a) → Found (rank a (signals m)) (nameOf names a)
+  found-first a d =
+      let r = ample-readings in
+      let i = rank a (signals m) in
+      let known : T (declares (r .first) i) =
+      rw (rank-number m name names w a d) (copy-declares m names (namesOf m names) (alone-numbered m name names w) (r .first) (r .first-copy) a d) in
+      let (e, l) = first-place a d in
+      let (n, z) = found-both r i (or-left (declares (r .first) i) (declares (r .second) i) known) in
+      (n ∙ ap (λ i. getD all i []) (sym e) ∙ place-name (nameOf names a) all l, z)
+
+  found-second : (b : ℕ) → T (declared p b) → Found (numberIn names′ all b) (nameOf names′ b)
+  found-second b d =
+      let r = ample-readings in
+      let i = numberIn names′ all b in
+      let known : T (declares (r .second) i) = copy-declares p names′ all second-numbered (r .second) (r .second-copy) b d in
+      let (n, z) = found-both r i (or-right (declares (r .first) i) (declares (r .second) i) known) in
+      (n ∙ place-name (nameOf names′ b) all (second-numbered .within b d), z)
+
+  -- A number is shared exactly for a shared name.
+  shared : (a b : ℕ) → T (declared m a) → T (declared p b) → (rank a (signals m) ≡ numberIn names′ all b) ↔ (nameOf names a ≡ nameOf names′ b)
+  shared a b d e =
+      let (f, l) = first-place a d in (
+        (λ q. sym (place-name (nameOf names a) all l) ∙ ap (λ i. getD all i []) (f ∙ q) ∙ place-name (nameOf names′ b) all (second-numbered .within b e)),
+        (λ q. sym f ∙ ap (λ n. place n all) q),
+      )
+
+  trip-both : (cells cells′ : ℕ) → m .header .states * 32 ≤ cells → p .header .states * 32 ≤ cells′ → JointTrip m names p names′ cells cells′ text text′
+  trip-both cells cells′ fits fits′ =
+      let r = read-both cells cells′ fits fits′ in
+      record {
+        first = r .first;
+        second = r .second;
+        read = r .read;
+        component = record {
+          valid = r .first-valid;
+          same =
+              copy-same m names (namesOf m names) (alone-numbered m name names w) (r .first) (r .first-copy) (λ b. lookup text text′ b .name)
+              (rankOf m) (rank-number m name names w) (λ a d. found-first a d .0);
+          found = λ a d. found-first a d .1;
+        };
+        specification = record {
+          valid = r .second-valid;
+          same =
+              copy-same p names′ all second-numbered (r .second) (r .second-copy) (λ b. lookup text text′ b .name) (numberIn names′ all) (λ b d. refl)
+              (λ b d. found-second b d .0);
+          found = λ b d. found-second b d .1;
+        };
+        shared = shared;
+      }
+
+-- What the writer takes of a module and of a plan, with at most 32 different names in all, is read back together.
+pub joint-trip : (m : Table) (name : List ℕ) (names : List (List ℕ)) (room : ℕ) → first (writerChecks m name names room) ≡ Accepted
+    → (p : Table) (name′ : List ℕ) (names′ : List (List ℕ)) (room′ : ℕ) → first (writerChecks p name′ names′ room′) ≡ Accepted
+    → length (allNames m names p names′) ≤ 32
+    → (order order′ : ℕ → List ℕ) → Order m order → Order p order′
+    → (cells cells′ : ℕ) → m .header .states * 32 ≤ cells → p .header .states * 32 ≤ cells′
+    → JointTrip m names p names′ cells cells′ (textWith order m name names) (textWith order′ p name′ names′)
+joint-trip m name names room e p name′ names′ room′ e′ few order order′ o o′ cells cells′ fits fits′ =
+    trip-both m name names (writable m name names room e) order o p name′ names′ (writable p name′ names′ room′ e′) order′ o′ few cells cells′ fits fits′
+
+-- ---- by the writer's contract: what it leaves in the lent bytes
+
+written-text : (t : Table) (name : List ℕ) (names : List (List ℕ)) (bytes bytes′ : List ℕ) → first (writerChecks t name names (length bytes)) ≡ Accepted
+    → (w : Written t name names bytes bytes′) → take (textLength t name names) bytes′ ≡ textWith (w .order) t name names
+unfolding bytesWith
+written-text t name names bytes bytes′ e w =
+    rw (w .text, e) (take-at (textWith (w .order) t name names) (drop (textLength t name names) bytes) (textLength t name names)
+    (text-length t (w .order) name names (w .each-once)))
+
+pub written-trip : (t : Table) (name : List ℕ) (names : List (List ℕ)) (bytes bytes′ : List ℕ) → first (writerChecks t name names (length bytes)) ≡ Accepted
+    → Written t name names bytes bytes′ → (cells : ℕ) → t .header .states * 32 ≤ cells → RoundTrip t names cells (take (textLength t name names) bytes′)
+written-trip t name names bytes bytes′ e w cells fits =
+    rw (written-text t name names bytes bytes′ e w) (round-trip t name names (length bytes) e (w .order) (w .each-once) cells fits)
+
+pub written-joint-trip : (m : Table) (name : List ℕ) (names : List (List ℕ)) (bytes bytes′ : List ℕ) → first (writerChecks m name names (length bytes)) ≡ Accepted
+    → Written m name names bytes bytes′
+    → (p : Table) (name′ : List ℕ) (names′ : List (List ℕ)) (other other′ : List ℕ) → first (writerChecks p name′ names′ (length other)) ≡ Accepted
+    → Written p name′ names′ other other′
+    → length (allNames m names p names′) ≤ 32 → (cells cells′ : ℕ) → m .header .states * 32 ≤ cells → p .header .states * 32 ≤ cells′
+    → JointTrip m names p names′ cells cells′ (take (textLength m name names) bytes′) (take (textLength p name′ names′) other′)
+written-joint-trip m name names bytes bytes′ e w p name′ names′ other other′ f v few cells cells′ fits fits′ =
+    rw (written-text m name names bytes bytes′ e w, written-text p name′ names′ other other′ f v)
+    (joint-trip m name names (length bytes) e p name′ names′ (length other) f few (w .order) (v .order) (w .each-once) (v .each-once) cells cells′ fits fits′)

@@ -1,0 +1,90 @@
+-- The letter's demand 2: a table written out as text and read again has the same states, first state, lists and steps, name for name.
+use mathlib.Core.Path.{_≡_}
+use mathlib.Core.Logic.{_↔_}
+use mathlib.Core.Bool.{cond}
+use mathlib.Core.List.{List, [], _∷_, _++_, map}
+use Prim.Native.Nat.{ℕ, suc, _*_, _<_}
+use lib.Dec.{T, eqb, ltb}
+use lib.ListN.{length, take}
+use Rattle.theory.specs.Table.{Table, table, member, cellAt}
+use Rattle.theory.specs.Checks.{declared}
+use Rattle.theory.specs.Valid.{Valid}
+use Rattle.text.specs.Fields.{same}
+use Rattle.text.specs.Reading.{Signal, Reading, finished, readAlone, both, readBoth}
+use Rattle.text.specs.Writing.{signals, nameOf}
+use Rattle.text.specs.Lookup.{lookup, lookupNumber, lookupAlone, lookupNumberAlone}
+
+-- The table that was read: its numbers, with as many of the lent cells as it has.
+abbrev pub tableRead : Reading → Table
+tableRead st = table (st .header) (take (st .header .states * 32) (st .cells))
+
+-- The tables t and u are the same, name for name; names and names′ say how their signals are called, number a is u's number for t's signal a.
+pub record SameByName (t : Table) (names : ℕ → List ℕ) (u : Table) (names′ : ℕ → List ℕ) (number : ℕ → ℕ) : Type 0 where
+  pub states : u .header .states ≡ t .header .states
+  pub initial : u .header .initial ≡ t .header .initial
+  pub name : (a : ℕ) → T (declared t a) → names′ (number a) ≡ names a
+  pub inputs : (a : ℕ) → T (declared t a) → member (u .header .inputs) (number a) ≡ member (t .header .inputs) a
+  pub outputs : (a : ℕ) → T (declared t a) → member (u .header .outputs) (number a) ≡ member (t .header .outputs) a
+  pub only : (b : ℕ) → T (declared u b) → (a : ℕ) × T (declared t a) × (number a ≡ b)
+  pub steps : (s a : ℕ) → s < t .header .states → T (declared t a) → cellAt u s (number a) ≡ cellAt t s a
+  pub no-others : (s b : ℕ) → s < t .header .states → b < 32 → ¬ T (declared u b) → cellAt u s b ≡ 65535
+
+-- A reading of the table t: the same, valid; looking up a signal's number gives its name, and no refusal.
+pub record ReadAgain (t : Table) (names : List (List ℕ)) (st : Reading) (find : ℕ → Signal) (refusal : ℕ → ℕ) (number : ℕ → ℕ) : Type 0 where
+  pub valid : Valid (tableRead st)
+  pub same : SameByName t (nameOf names) (tableRead st) (λ b. find b .name) number
+  pub found : (a : ℕ) → T (declared t a) → refusal (number a) ≡ 0
+
+-- ---- a text alone
+
+-- The place of a in a list.
+unfoldable pub rank : ℕ → List ℕ → ℕ
+rank a [] = 0
+rank a (b ∷ l) = cond (eqb b a) 0 (suc (rank a l))
+
+-- A signal's number is its rank among the declared ones.
+abbrev pub rankOf : Table → ℕ → ℕ
+rankOf t a = rank a (signals t)
+
+-- The text, read with so many cells lent.
+pub record RoundTrip (t : Table) (names : List (List ℕ)) (cells : ℕ) (text : List ℕ) : Type 0 where
+  pub reading : Reading
+  pub read : readAlone cells text ≡ finished reading
+  pub again : ReadAgain t names reading (lookupAlone text) (lookupNumberAlone text) (rankOf t)
+
+-- ---- a module's and a plan's text together: signals are numbered as first declared, module first
+
+-- The names of the declared signals.
+abbrev pub namesOf : Table → List (List ℕ) → List (List ℕ)
+namesOf t names = map (nameOf names) (signals t)
+
+-- The place of a name in a list; behind it where it is not there.
+unfoldable pub place : List ℕ → List (List ℕ) → ℕ
+place n [] = 0
+place n (m ∷ l) = cond (same m n) 0 (suc (place n l))
+
+-- A list with a name behind it, if that is new.
+abbrev pub with : List (List ℕ) → List ℕ → List (List ℕ)
+with l n = cond (ltb (place n l) (length l)) l (l ++ n ∷ [])
+
+-- With the new ones of some names, as they come.
+unfoldable pub different : List (List ℕ) → List (List ℕ) → List (List ℕ)
+different l [] = l
+different l (n ∷ ns) = different (with l n) ns
+
+-- The different names of the module m and the plan p.
+abbrev pub allNames : Table → List (List ℕ) → Table → List (List ℕ) → List (List ℕ)
+allNames m names p names′ = different (namesOf m names) (namesOf p names′)
+
+-- The number of the plan's signal b is the place of its name among them.
+abbrev pub numberAmong : Table → List (List ℕ) → Table → List (List ℕ) → ℕ → ℕ
+numberAmong m names p names′ b = place (nameOf names′ b) (allNames m names p names′)
+
+-- The two texts, read together: the module's signals are numbered as alone, and a number is shared exactly for a shared name.
+pub record JointTrip (m : Table) (names : List (List ℕ)) (p : Table) (names′ : List (List ℕ)) (cells cells′ : ℕ) (text text′ : List ℕ) : Type 0 where
+  pub first : Reading
+  pub second : Reading
+  pub read : readBoth cells text cells′ text′ ≡ both first second
+  pub component : ReadAgain m names first (lookup text text′) (lookupNumber text text′) (rankOf m)
+  pub specification : ReadAgain p names′ second (lookup text text′) (lookupNumber text text′) (numberAmong m names p names′)
+  pub shared : (a b : ℕ) → T (declared m a) → T (declared p b) → (rankOf m a ≡ numberAmong m names p names′ b) ↔ (nameOf names a ≡ nameOf names′ b)

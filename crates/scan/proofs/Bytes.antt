@@ -1,0 +1,87 @@
+-- Laws for `find`, `equal` and the parts, by what the code knows at the byte i of s, whose length is n: the definition on what is left of s
+-- makes up the definition on the whole.
+use mathlib.Core.Path.{_≡_, refl, sym, ap, _∙_}
+use mathlib.Core.Bool.{Bool, true, false, _&&_}
+use mathlib.Core.List.{List, [], _∷_}
+use Prim.Native.Nat.{ℕ, suc, _+_, _-_, _≤_, _<_}
+use native.Mathlib.Numerals.{add-one}
+use native.Mathlib.Omega.{arith}
+use lib.Dec.{eqb}
+use lib.ListN.{length, take, drop, getD, length-drop, drop-of-length-le}
+use lib.Seq.{drop-cons, take-all}
+use borrow.Author.Tests.{eq-eqb, ne-eqb}
+use Rattle.text.specs.Fields.{upto, same}
+use Rattle.text.proofs.Split.{upto-le}
+
+-- What is left at i is the byte there and what is left after it.
+pub drop-step : (s : List ℕ) (i : ℕ) → i < length s → drop i s ≡ getD s i 0 ∷ drop (i + 1) s
+drop-step s i h = rw (add-one i, drop-cons s i 0 h)
+
+-- ---- find
+
+module _ (b : ℕ) (s : List ℕ) (n i : ℕ) (l : n ≡ length s) (e : i + upto b (drop i s) ≡ upto b s) where
+  pub find-here : i < n → getD s i 0 ≡ b → i ≡ upto b s
+  unfolding upto
+  find-here h k =
+      let z : upto b (drop i s) ≡ 0 = ap (upto b) (drop-step s i (omega arith)) ∙ simp (eq-eqb (getD s i 0) b k) in
+      omega arith
+
+  pub find-on : i < n → (getD s i 0 ≡ b → ⊥) → i + 1 + upto b (drop (i + 1) s) ≡ upto b s
+  unfolding upto
+  find-on h k =
+      let z : upto b (drop i s) ≡ suc (upto b (drop (i + 1) s)) =
+      ap (upto b) (drop-step s i (omega arith)) ∙ simp (ne-eqb (getD s i 0) b k) in
+      omega arith
+
+  pub find-none : n ≤ i → length s ≡ upto b s
+  find-none h = omega (arith, upto-le b s)
+
+-- ---- equal
+
+-- Lists of different lengths are not the same.
+pub same-unlike : (s t : List ℕ) → (length s ≡ length t → ⊥) → false ≡ same s t
+unfolding same
+same-unlike [] [] n = absurd (n refl)
+same-unlike [] (y ∷ t) n = refl
+same-unlike (x ∷ s) [] n = refl
+same-unlike (x ∷ s) (y ∷ t) n = go (eqb x y) (same-unlike s t (λ e. n (ap suc e)))
+  where
+    go : (b : Bool) → false ≡ same s t → false ≡ (b && same s t)
+    go true e = e
+    go false e = refl
+
+module _ (s t : List ℕ) (n i : ℕ) (l : n ≡ length s) (m : length s ≡ length t) (e : same (drop i s) (drop i t) ≡ same s t) where
+  same-step : i < n → same (drop i s) (drop i t) ≡ (eqb (getD s i 0) (getD t i 0) && same (drop (i + 1) s) (drop (i + 1) t))
+  unfolding same
+  same-step h = rw (drop-step s i (omega arith), drop-step t i (omega arith))
+
+  pub same-differ : i < n → (getD s i 0 ≡ getD t i 0 → ⊥) → false ≡ same s t
+  same-differ h k = sym (simp (ne-eqb (getD s i 0) (getD t i 0) k) at (same-step h)) ∙ e
+
+  pub same-on : i < n → getD s i 0 ≡ getD t i 0 → same (drop (i + 1) s) (drop (i + 1) t) ≡ same s t
+  same-on h k = sym (simp (eq-eqb (getD s i 0) (getD t i 0) k) at (same-step h)) ∙ e
+
+  pub same-all : n ≤ i → true ≡ same s t
+  unfolding same
+  same-all h = rw (drop-of-length-le s {i = i} (omega arith), drop-of-length-le t {i = i} (omega arith)) at e
+
+-- ---- parts
+
+pub before-all : (s : List ℕ) (at : ℕ) → length s ≤ at → s ≡ take at s
+before-all s at h = sym (take-all at s h)
+
+pub before-some : (s : List ℕ) (at : ℕ) → take (at - 0) s ≡ take at s
+before-some s at = let z : at - 0 ≡ at = omega arith in rw z
+
+pub after-none : (s : List ℕ) (at : ℕ) → length s ≤ at → take 0 s ≡ drop at s
+after-none s at h = sym (drop-of-length-le s {i = at} h)
+
+-- A part to the end is what is dropped.
+pub after-rest : (s : List ℕ) (at : ℕ) → take (length s - at) (drop at s) ≡ drop at s
+after-rest s at = take-all (length s - at) (drop at s) (omega (arith, length-drop at s))
+
+pub part-none : (s r : List ℕ) (from to : ℕ) → to ≤ from → r ≡ take 0 s → r ≡ take (to - from) (drop from s)
+part-none s r from to h e = let z : to - from ≡ 0 = omega arith in rw z e
+
+pub part-some : (s u r : List ℕ) (from to : ℕ) → u ≡ drop from s → r ≡ take (to - from) u → r ≡ take (to - from) (drop from s)
+part-some s u r from to e f = f ∙ ap (take (to - from)) e

@@ -1,0 +1,11 @@
+pub mod Split
+pub mod Decimal
+pub mod Occurrences
+pub mod Lengths
+pub mod Names
+pub mod Lines
+pub mod Roles
+pub mod Entries
+pub mod Accepted
+pub mod Said
+pub mod Parts

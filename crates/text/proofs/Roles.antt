@@ -1,0 +1,92 @@
+-- A table's lists after a declaration.
+use mathlib.Core.Path.{_≡_, refl, ap, _∙_}
+use mathlib.Core.Bool.{Bool, true, false, _||_, and-false, or-false, or-true}
+use Prim.Native.Nat.{ℕ, _^_, _<_}
+use native.Mathlib.Decide.{ℕ-discrete}
+use lib.Bits.{bitOr, or-lt}
+use mathlib.Core.List.{[]}
+use mathlib.Core.Logic.{inl, inr}
+use lib.Dec.{T, eqb, ltb, eqb→eq}
+use lib.Pow.{pow-lt}
+use borrow.Author.Tests.{eq-eqb, ne-eqb, lt-ltb}
+use Rattle.theory.specs.declared.Automaton.{Automaton}
+use Rattle.theory.specs.Table.{table, member}
+use Rattle.theory.specs.Checks.{declared}
+use Rattle.theory.proofs.Sets.{member-or}
+use Rattle.theory.proofs.Tests.{or-cases, or-left, or-right}
+use Rattle.sets.proofs.Visit.{has-none, has-power}
+use Rattle.text.specs.declared.Role.{Role}
+use Rattle.text.specs.declared.Role.the-variants.{Input, Output}
+use Rattle.text.specs.Reading.{withRole}
+
+pub member-none : (a : ℕ) → member 0 a ≡ false
+member-none a = rw (has-none a) (and-false (ltb a 32))
+
+pub member-with : (s a b : ℕ) → a < 32 → member (bitOr s (2 ^ a)) b ≡ (member s b || eqb b a)
+member-with s a b h = member-or s (2 ^ a) b ∙ ap (λ x. member s b || x) (elim (ℕ-discrete b a) [
+  | yes e ↦ rw (has-power a b, e, lt-ltb a 32 h)
+  | no d ↦ rw (has-power a b, ne-eqb b a d) (and-false (ltb b 32))
+])
+
+-- ---- a signal's membership of both lists
+
+abbrev pub rolesAt : Automaton → ℕ → Bool × Bool
+rolesAt h b = (member (h .inputs) b, member (h .outputs) b)
+
+abbrev pub only : Role → Bool × Bool
+only Input = (true, false)
+only Output = (false, true)
+
+pub roles-here : (r : Role) (a : ℕ) (h : Automaton) → a < 32 → rolesAt h a ≡ (false, false) → rolesAt (withRole r a h) a ≡ only r
+roles-here Input a h l e =
+    let f : member (h .outputs) a ≡ false = ap (λ p. p .1) e in
+    rw (member-with (h .inputs) a a l, eq-eqb a a refl, or-true (member (h .inputs) a), f)
+roles-here Output a h l e =
+    let f : member (h .inputs) a ≡ false = ap (λ p. p .0) e in
+    rw (member-with (h .outputs) a a l, eq-eqb a a refl, or-true (member (h .outputs) a), f)
+
+pub roles-there : (r : Role) (a : ℕ) (h : Automaton) (b : ℕ) → a < 32 → ¬ (b ≡ a) → rolesAt (withRole r a h) b ≡ rolesAt h b
+roles-there Input a h b l d = rw (member-with (h .inputs) a b l, ne-eqb b a d, or-false (member (h .inputs) b))
+roles-there Output a h b l d = rw (member-with (h .outputs) a b l, ne-eqb b a d, or-false (member (h .outputs) b))
+
+-- ---- all signals
+
+-- A signal has a role exactly if it had one, or is the one declared.
+pub declared-with : (r : Role) (a : ℕ) (h : Automaton) (b : ℕ) → a < 32
+    → declared (table (withRole r a h) []) b ≡ (declared (table h []) b || eqb b a)
+declared-with Input a h b l = rw (member-with (h .inputs) a b l) (swap (member (h .inputs) b) (member (h .outputs) b) (eqb b a))
+  where
+    swap : (x y z : Bool) → (x || z || y) ≡ (x || y || z)
+    swap true y z = refl
+    swap false true true = refl
+    swap false true false = refl
+    swap false false z = or-false z
+declared-with Output a h b l = rw (member-with (h .outputs) a b l) (assoc (member (h .inputs) b))
+  where
+    assoc : (x : Bool) → (x || (member (h .outputs) b || eqb b a)) ≡ (x || member (h .outputs) b || eqb b a)
+    assoc true = refl
+    assoc false = refl
+
+-- The lists stay sets of 32 digits, and disjoint.
+pub record Lists (h : Automaton) : Type 0 where
+  pub inputs : h .inputs < 2 ^ 32
+  pub outputs : h .outputs < 2 ^ 32
+  pub disjoint : (a : ℕ) → T (member (h .inputs) a) → ¬ T (member (h .outputs) a)
+
+pub lists-with : (r : Role) (a : ℕ) (h : Automaton) → a < 32 → ¬ T (declared (table h []) a) → Lists h → Lists (withRole r a h)
+lists-with Input a h l n w = record {
+  inputs = or-lt 32 (h .inputs) (2 ^ a) (w .inputs) (pow-lt l);
+  outputs = w .outputs;
+  disjoint = λ b t u. elim (or-cases (member (h .inputs) b) (eqb b a) (rw (member-with (h .inputs) a b l) at t)) [
+    | inl x ↦ w .disjoint b x u
+    | inr x ↦ n (or-right (member (h .inputs) a) (member (h .outputs) a) (rw (eqb→eq b a x) at u))
+  ];
+}
+lists-with Output a h l n w = record {
+  inputs = w .inputs;
+  outputs = or-lt 32 (h .outputs) (2 ^ a) (w .outputs) (pow-lt l);
+  disjoint = λ b t u. elim (or-cases (member (h .outputs) b) (eqb b a) (rw (member-with (h .outputs) a b l) at u)) [
+    | inl x ↦ w .disjoint b t x
+    | inr x ↦ n (or-left (member (h .inputs) a) (member (h .outputs) a) (rw (eqb→eq b a x) at t))
+  ];
+}

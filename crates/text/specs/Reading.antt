@@ -1,0 +1,164 @@
+-- The reading of table text (01, "Table text", and the refusals 13 to 22, 1, 2, 10): a fold over the lines.
+use mathlib.Core.Bool.{Bool, true, false, not, _||_, cond}
+use mathlib.Core.List.{List, [], _∷_, _++_}
+use Prim.Native.Nat.{ℕ, suc, _+_, _*_, _^_}
+use lib.Bits.{bitOr}
+use lib.Dec.{eqb, ltb, leb}
+use lib.ListN.{length, getD, set, replicate}
+use Rattle.theory.specs.declared.Automaton.{Automaton}
+use Rattle.theory.specs.Table.{table as tableOf}
+use Rattle.theory.specs.Checks.{declared}
+use Rattle.text.specs.declared.Place.{Place}
+use Rattle.text.specs.declared.Place.the-variants.{Head, Declarations, Steps}
+use Rattle.text.specs.declared.Role.{Role}
+use Rattle.text.specs.declared.Role.the-variants.{Input, Output}
+use Rattle.text.specs.declared.TextRefusal.{TextRefusal}
+use Rattle.text.specs.Fields.{split, same}
+use Rattle.text.specs.Lines.{Entry, table, declaration, step, refused, roleWord, parse}
+
+-- A signal: its name, and where that was first declared: in which text (1, 2), from which byte on.
+pub record Signal : Type 0 where
+  pub name : List ℕ
+  pub text : ℕ
+  pub from : ℕ
+
+-- What has been read: the place that the next line has, the table's numbers so far, all signals so far by number, the lent cells.
+pub record Reading : Type 0 where
+  pub place : Place
+  pub header : Automaton
+  pub signals : List Signal
+  pub cells : List ℕ
+
+-- What a line does to a reading.
+pub data Result : Type 0 where
+  next : Reading → Result
+  stop : (number : ℕ) → Result
+
+-- The number of a name: that of the first signal that has it, or the next number.
+unfoldable pub indexOf : List ℕ → List Signal → ℕ
+indexOf n [] = 0
+indexOf n (s ∷ l) = cond (same (s .name) n) 0 (suc (indexOf n l))
+
+-- ---- the `table` line: 1, 2, 10
+
+unfoldable pub started : Reading → ℕ → ℕ → Result
+started st states initial =
+    cond (eqb states 0 || ltb 4096 states) (stop 1)
+    (cond (leb states initial) (stop 2)
+    (cond (ltb (length (st .cells)) (states * 32)) (stop 10)
+    (next (record {
+      place = Declarations;
+      header = record { states = states; initial = initial; inputs = 0; outputs = 0 };
+      signals = st .signals;
+      cells = st .cells;
+    }))))
+
+-- ---- a declaration: 18, 21
+
+abbrev pub withRole : Role → ℕ → Automaton → Automaton
+withRole Input a h = record { states = h .states; initial = h .initial; inputs = bitOr (h .inputs) (2 ^ a); outputs = h .outputs }
+withRole Output a h = record { states = h .states; initial = h .initial; inputs = h .inputs; outputs = bitOr (h .outputs) (2 ^ a) }
+
+-- The signals with this one, if its name is new.
+abbrev pub known : List Signal → Signal → ℕ → List Signal
+known l s a = cond (ltb a (length l)) l (l ++ s ∷ [])
+
+-- Of the signal s, whose number is a.
+unfoldable pub declaring : Reading → Role → Signal → ℕ → Result
+declaring st r s a =
+    cond (declared (tableOf (st .header) []) a) (stop 18)
+    (cond (leb 32 a) (stop 21)
+    (next (record { place = Declarations; header = withRole r a (st .header); signals = known (st .signals) s a; cells = st .cells })))
+
+-- ---- a step: 19, 20
+
+-- Of the signal a.
+unfoldable pub stepping : Reading → ℕ → ℕ → ℕ → Result
+stepping st from a to =
+    cond (not (declared (tableOf (st .header) []) a) || leb (st .header .states) from || leb (st .header .states) to) (stop 19)
+    (cond (not (eqb (getD (st .cells) (from * 32 + a) 65535) 65535)) (stop 20)
+    (next (record { place = Steps; header = st .header; signals = st .signals; cells = set (st .cells) (from * 32 + a) to })))
+
+-- ---- a line, and all lines
+
+-- A line of the given text that begins at the byte `at`. A declared name stands after the line's kind and a tab.
+unfoldable pub entered : ℕ → ℕ → Reading → Entry → Result
+entered text at st (table states initial) = started st states initial
+entered text at st (declaration r n) =
+    declaring st r (record { name = n; text = text; from = at + length (roleWord r) + 1 }) (indexOf n (st .signals))
+entered text at st (step from n to) = stepping st from (indexOf n (st .signals)) to
+entered text at st (refused k) = stop k
+
+-- What comes of a text: what was read, or a refusal.
+pub data Outcome : Type 0 where
+  finished : Reading → Outcome
+  ended : TextRefusal → Outcome
+
+abbrev pub refuseAt : ℕ → ℕ → ℕ → Outcome
+refuseAt n text line = ended (record { number = n; text = text; line = line })
+
+abbrev pub onward : ℕ → ℕ → Result → (Reading → Outcome) → Outcome
+onward text line (next st) f = f st
+onward text line (stop n) f = refuseAt n text line
+
+abbrev pub isNil : List ℕ → Bool
+isNil [] = true
+isNil (x ∷ s) = false
+
+-- The lines from the k-th on, which begins at the byte `at`. After the last LF nothing may stand (14).
+unfoldable pub readLines : ℕ → ℕ → ℕ → Reading → List (List ℕ) → Outcome
+readLines text k at st [] = finished st
+readLines text k at st (l ∷ []) = cond (isNil l) (finished st) (refuseAt 14 text k)
+readLines text k at st (l ∷ m ∷ ls) =
+    onward text k (entered text at st (parse (st .place) l)) (λ st. readLines text (suc k) (at + length l + 1) st (m ∷ ls))
+
+-- ---- a text
+
+-- Before the first line: the signals that are numbered already, and lent cells, all 65,535.
+abbrev pub fresh : List Signal → ℕ → Reading
+fresh l room = record {
+  place = Head;
+  header = record { states = 0; initial = 0; inputs = 0; outputs = 0 };
+  signals = l;
+  cells = replicate room 65535;
+}
+
+-- 13, then the lines; 22.
+unfoldable pub readFrom : List Signal → ℕ → ℕ → List ℕ → Outcome
+readFrom l text room bytes =
+    cond (ltb 65536 (length bytes)) (refuseAt 13 text 0)
+    (cond (isNil bytes) (refuseAt 22 text 0) (readLines text 1 0 (fresh l room) (split 10 bytes)))
+
+-- A text alone; room is the number of lent cells.
+unfoldable pub readAlone : ℕ → List ℕ → Outcome
+readAlone room bytes = readFrom [] 1 room bytes
+
+-- A module's text to its end, then a plan's, whose signals continue the numbering.
+pub data Joint : Type 0 where
+  both : (component specification : Reading) → Joint
+  neither : TextRefusal → Joint
+
+abbrev pub afterSecond : Reading → Outcome → Joint
+afterSecond m (finished p) = both m p
+afterSecond m (ended r) = neither r
+
+abbrev pub afterFirst : ℕ → List ℕ → Outcome → Joint
+afterFirst room bytes (finished m) = afterSecond m (readFrom (m .signals) 2 room bytes)
+afterFirst room bytes (ended r) = neither r
+
+unfoldable pub readBoth : ℕ → List ℕ → ℕ → List ℕ → Joint
+readBoth room bytes room′ bytes′ = afterFirst room′ bytes′ (readAlone room bytes)
+
+-- ---- the lent cells after a reading: a refused one leaves no step in any table concerned
+
+abbrev pub cellsAlone : ℕ → Outcome → List ℕ
+cellsAlone room (finished st) = st .cells
+cellsAlone room (ended r) = replicate room 65535
+
+abbrev pub cellsFirst : ℕ → Joint → List ℕ
+cellsFirst room (both m p) = m .cells
+cellsFirst room (neither r) = replicate room 65535
+
+abbrev pub cellsSecond : ℕ → Joint → List ℕ
+cellsSecond room (both m p) = p .cells
+cellsSecond room (neither r) = replicate room 65535

@@ -1,0 +1,132 @@
+-- The text of a table (01, "Table text"), the steps of each state in any order, and why the writer turns a call away.
+use mathlib.Core.Path.{_≡_}
+use mathlib.Core.Bool.{Bool, not, _&&_, _||_, cond}
+use mathlib.Core.List.{List, [], _∷_, _++_, map}
+use Prim.Native.Nat.{ℕ, zero, suc, _+_, _/_, _%_, _<_}
+use lib.Dec.{eqb, ltb}
+use lib.ListN.{length, getD, drop}
+use Rattle.theory.specs.Bounded.{any, digit}
+use Rattle.theory.specs.Closure.{isSome}
+use Rattle.theory.specs.Table.{Table, automaton, cellAt, member}
+use Rattle.theory.specs.Checks.{Check, first, unlessRefused, declared, tableChecks}
+use Rattle.text.specs.declared.Role.{Role}
+use Rattle.text.specs.declared.Role.the-variants.{Input, Output}
+use Rattle.text.specs.Fields.{same, nameOk}
+use Rattle.text.specs.Lines.{tableWord, roleWord, stepWord}
+
+-- ---- numbers
+
+-- The decimal digits of a number below 10 ^ (k + 1), without needless zeros; of a greater one the last k + 1 digits.
+unfoldable pub digitsOf : ℕ → ℕ → List ℕ
+digitsOf zero n = (48 + n % 10) ∷ []
+digitsOf (suc k) n = cond (ltb n 10) ((48 + n % 10) ∷ []) (digitsOf k (n / 10) ++ (48 + n % 10) ∷ [])
+
+-- All digits of a number below 100,000: five at most.
+unfoldable pub decimal : ℕ → List ℕ
+decimal n = digitsOf 4 n
+
+-- ---- lines
+
+-- A line without its LF: its fields, with tabs between.
+unfoldable pub tabbed : List (List ℕ) → List ℕ
+tabbed [] = []
+tabbed (f ∷ []) = f
+tabbed (f ∷ g ∷ fs) = f ++ 9 ∷ tabbed (g ∷ fs)
+
+-- Lines, each ended by LF.
+unfoldable pub printed : List (List (List ℕ)) → List ℕ
+printed [] = []
+printed (l ∷ ls) = tabbed l ++ 10 ∷ printed ls
+
+-- ---- a table
+
+-- The numbers from s on, n of them, that pass the test, ascending.
+unfoldable pub those : (ℕ → Bool) → ℕ → ℕ → List ℕ
+those f s zero = []
+those f s (suc n) = cond (f s) (s ∷ those f (suc s) n) (those f (suc s) n)
+
+-- The declared signals, by ascending number.
+unfoldable pub signals : Table → List ℕ
+signals t = those (declared t) 0 32
+
+-- The role of a declared signal.
+abbrev pub roleOf : Table → ℕ → Role
+roleOf t a = cond (member (t .header .inputs) a) Input Output
+
+-- The name of a signal; a missing entry is an empty name.
+abbrev pub nameOf : List (List ℕ) → ℕ → List ℕ
+nameOf names a = getD names a []
+
+unfoldable pub tableRow : Table → List ℕ → List (List ℕ)
+tableRow t name = tableWord ∷ name ∷ decimal (t .header .states) ∷ decimal (t .header .initial) ∷ []
+
+unfoldable pub signalRow : Table → List (List ℕ) → ℕ → List (List ℕ)
+signalRow t names a = roleWord (roleOf t a) ∷ nameOf names a ∷ []
+
+unfoldable pub stepRow : Table → List (List ℕ) → ℕ → ℕ → List (List ℕ)
+stepRow t names s a = stepWord ∷ decimal s ∷ nameOf names a ∷ decimal (cellAt t s a) ∷ []
+
+-- The steps of the states from s on, n of them; those of one state in the order of signals that is given for it.
+unfoldable pub stepRows : (ℕ → List ℕ) → Table → List (List ℕ) → ℕ → ℕ → List (List (List ℕ))
+stepRows order t names s zero = []
+stepRows order t names s (suc n) = map (stepRow t names s) (order s) ++ stepRows order t names (suc s) n
+
+-- The whole text: signals by ascending number, steps sorted by state of departure.
+unfoldable pub textWith : (ℕ → List ℕ) → Table → List ℕ → List (List ℕ) → List ℕ
+textWith order t name names =
+    printed (tableRow t name ∷ map (signalRow t names) (signals t) ++ stepRows order t names 0 (t .header .states))
+
+-- ---- orders of the steps of a state
+
+-- The state s has a step by the signal a.
+abbrev pub hasStep : Table → ℕ → ℕ → Bool
+hasStep t s a = isSome (automaton t .next s a)
+
+-- How often x stands in a list.
+unfoldable pub occurrences : ℕ → List ℕ → ℕ
+occurrences x [] = 0
+occurrences x (y ∷ l) = cond (eqb y x) (suc (occurrences x l)) (occurrences x l)
+
+-- What 01 leaves open: an order for each state, in which each signal that has a step there stands exactly once, and no other.
+pub record Order (t : Table) (order : ℕ → List ℕ) : Type 0 where
+  pub once : (s a : ℕ) → s < t .header .states → occurrences a (order s) ≡ digit (hasStep t s a)
+
+-- One such order: by ascending signal. The length of the text is the same in all.
+unfoldable pub ascending : Table → ℕ → List ℕ
+ascending t s = those (hasStep t s) 0 32
+
+-- ---- the writer's checks: 1 to 6, 16 (table name, then signals), 18 for equal signal names, 23
+
+module _ (t : Table) (name : List ℕ) (names : List (List ℕ)) where
+  abbrev check : ℕ → Bool → Check
+  check n b = record { number = n; table = 0; applies = b }
+
+  -- A declared signal's name breaks the name rule.
+  abbrev pub misnamed : Bool
+  misnamed = any 32 (λ a. declared t a && not (nameOk (nameOf names a)))
+
+  -- Two declared signals have equal names.
+  abbrev pub ambiguous : Bool
+  ambiguous = any 32 (λ a. any a (λ b. (declared t a && declared t b) && same (nameOf names a) (nameOf names b)))
+
+  unfoldable pub textLength : ℕ
+  textLength = length (textWith (ascending t) t name names)
+
+  -- The text is longer than the lent buffer or than 65,536 bytes.
+  abbrev pub tooLong : ℕ → Bool
+  tooLong room = ltb room textLength || ltb 65536 textLength
+
+  unfoldable pub writerChecks : ℕ → List Check
+  writerChecks room =
+      tableChecks 1 t ++ (check 16 (not (nameOk name)) ∷ check 16 misnamed ∷ check 18 ambiguous ∷ check 23 (tooLong room) ∷ [])
+
+  -- The lent bytes after the call, with the steps in the given order: the text, then the bytes as they were; all of them after a refusal.
+  unfoldable pub bytesWith : (ℕ → List ℕ) → List ℕ → List ℕ
+  bytesWith order bytes =
+      unlessRefused (first (writerChecks (length bytes))) (λ r. bytes) (textWith order t name names ++ drop textLength bytes)
+
+  -- The contract of the bytes: in some such order.
+  pub record Written (bytes bytes′ : List ℕ) : Type 0 where
+    pub order : ℕ → List ℕ
+    pub each-once : Order t order
+    pub text : bytes′ ≡ bytesWith order bytes

@@ -1,0 +1,122 @@
+-- The writer's checks, the text by way of a scratch buffer, and the reply.
+use mathlib.Core.Path.{_≡_, sym, ap, _∙_}
+use mathlib.Core.Bool.{true, false, _||_, or-true}
+use mathlib.Core.List.{List, _++_, append-assoc}
+use Prim.Native.Nat.{ℕ, _-_, _≤_, _<_, min}
+use native.Mathlib.Omega.{arith}
+use lib.Bits.{bitOr}
+use lib.Dec.{ltb}
+use lib.ListN.{length, take, drop}
+use borrow.Author.Tests.{lt-ltb, le-ltb}
+use Rattle.theory.specs.declared.Refusal.{Refusal}
+use Rattle.theory.specs.declared.Checked.{Checked}
+use Rattle.theory.specs.declared.Checked.the-variants.{Accepted, Refused}
+use Rattle.theory.specs.Table.{Table, table}
+use Rattle.theory.specs.Checks.{first, tableChecks}
+use Rattle.theory.specs.Valid.{Valid}
+use Rattle.theory.proofs.Checks.{first-refused, first-accepted, first-part, checks-valid}
+use Rattle.text.specs.Writing.{textWith, ascending, textLength, writerChecks, bytesWith, Written}
+use Rattle.text.proofs.Lengths.{ascending-order}
+use Rattle.emit.specs.Buffer.{after}
+use Rattle.emit.proofs.Buffer.{Puts, length-stored, stored-front, stored-read}
+use Rattle.names.specs.Names.{Named, nameChecks}
+use Rattle.names.proofs.Checks.{passed-named}
+use Rattle.writer.specs.declared.Printed.{Printed}
+use Rattle.writer.specs.declared.Printed.the-variants as reply
+use Rattle.writer.specs.Replies.{checksBefore, lengthCheck, printReply, printBytes, writerReply}
+
+module _ (t : Table) (name : List ℕ) (names : List (List ℕ)) where
+  -- ---- all checks but 23
+
+  pub before-refused : (k : Checked) → k ≡ first (tableChecks 1 t) → (r : Refusal) → k ≡ Refused r → k ≡ first (checksBefore t name names)
+  unfolding checksBefore
+  before-refused k e r f = f ∙ sym (first-refused (tableChecks 1 t) (nameChecks (t .header) name names) r (sym e ∙ f))
+
+  pub before-accepted : (k : Checked) → k ≡ first (tableChecks 1 t) → k ≡ Accepted → (r : Checked) → r ≡ first (nameChecks (t .header) name names)
+      → r ≡ first (checksBefore t name names)
+  unfolding checksBefore
+  before-accepted k e f r g = g ∙ sym (first-accepted (tableChecks 1 t) (nameChecks (t .header) name names) (sym e ∙ f))
+
+  -- ---- 23, and the text
+
+  abbrev text : List ℕ
+  text = textWith (ascending t) t name names
+
+  module _ (scratch b out : List ℕ) (n : ℕ) (size : length scratch ≡ 65536) (p : Puts scratch 0 text n b) where
+    ends : n ≡ min (length text) 65537
+    unfolding after
+    ends = omega (arith, p .0)
+
+    -- The call is refused by 23, and the lent bytes are as they were.
+    abbrev Refuses : Type 0
+    Refuses =
+        (r : Refusal) → r ≡ record { number = 23; table = 0 }
+        → (reply.Refused r ≡ printReply t name names (length out)) × (out ≡ printBytes t name names out)
+
+    long : ltb (length out) (length text) || ltb 65536 (length text) ≡ true → Refuses
+    unfolding printReply printBytes lengthCheck first textLength
+    long e r f = (rw (e, f), rw e)
+
+    pub print-beyond : length b < n → Refuses
+    print-beyond h =
+        let m : 65536 < length text = omega (arith, ends, ap length (p .1), length-stored scratch 0 text) in
+        long (rw (lt-ltb 65536 (length text) m) (or-true (ltb (length out) (length text))))
+
+    pub print-long : length out < n → Refuses
+    print-long h = long (rw (lt-ltb (length out) (length text) (omega (arith, ends))))
+
+    pub print-fits : n ≤ length b → n ≤ length out → (r : ℕ) (out′ : List ℕ) → Puts out 0 (take (n - 0) b) r out′
+        → (reply.Length n ≡ printReply t name names (length out)) × (out′ ≡ printBytes t name names out)
+    unfolding printReply printBytes lengthCheck first textLength
+    print-fits h k r out′ (_, v) =
+        let m : length b ≡ 65536 = ap length (p .1) ∙ length-stored scratch 0 text ∙ size in
+        let whole : n ≡ length text = omega (arith, ends) in
+        let z : n - 0 ≡ length text = omega (arith, ends) in
+        let part : take (n - 0) b ≡ text = rw (z, p .1) (stored-read scratch text (omega arith)) in
+        let put : out′ ≡ text ++ drop (length text) out = (rw part at v) ∙ stored-front out text (omega arith) in
+        let short : ltb (length out) (length text) ≡ false = le-ltb (length out) (length text) (omega arith) in
+        let small : ltb 65536 (length text) ≡ false = le-ltb 65536 (length text) (omega arith) in
+        (rw (short, small, whole), rw (short, small, put))
+
+  -- ---- the call
+
+  split : (room : ℕ) → first (writerChecks t name names room) ≡ first (checksBefore t name names ++ lengthCheck t name names room)
+  unfolding writerChecks checksBefore nameChecks lengthCheck
+  split room = ap first (sym (append-assoc (tableChecks 1 t) (nameChecks (t .header) name names) (lengthCheck t name names room)))
+
+  -- Steps by ascending signal are one of the orders.
+  written : (bytes bytes′ : List ℕ) → bytes′ ≡ bytesWith t name names (ascending t) bytes → Written t name names bytes bytes′
+  written bytes bytes′ e = record { order = ascending t; each-once = ascending-order t; text = e }
+
+  module _ (k : Checked) (checked : k ≡ first (checksBefore t name names)) (bytes : List ℕ) where
+    module _ (r : Refusal) (no : k ≡ Refused r) where
+      refused : first (writerChecks t name names (length bytes)) ≡ Refused r
+      refused = split (length bytes) ∙ first-refused (checksBefore t name names) (lengthCheck t name names (length bytes)) r (sym checked ∙ no)
+
+      pub write-refused : reply.Refused r ≡ writerReply t name names (length bytes)
+      unfolding writerReply
+      write-refused = rw refused
+
+      pub write-kept : Written t name names bytes bytes
+      unfolding bytesWith
+      write-kept = written bytes bytes (rw refused)
+
+    module _ (yes : k ≡ Accepted) where
+      pub write-valid : Valid t
+      unfolding checksBefore
+      write-valid = checks-valid 1 t .0 (first-part (tableChecks 1 t) (nameChecks (t .header) name names) (sym checked ∙ yes) .0)
+
+      pub write-named : Named (bitOr (t .header .inputs) (t .header .outputs)) names
+      unfolding checksBefore
+      write-named = passed-named (t .header) name names (first-part (tableChecks 1 t) (nameChecks (t .header) name names) (sym checked ∙ yes) .1)
+
+      only : first (writerChecks t name names (length bytes)) ≡ first (lengthCheck t name names (length bytes))
+      only = split (length bytes) ∙ first-accepted (checksBefore t name names) (lengthCheck t name names (length bytes)) (sym checked ∙ yes)
+
+      pub write-printed : (x : Printed) → x ≡ printReply t name names (length bytes) → x ≡ writerReply t name names (length bytes)
+      unfolding writerReply printReply
+      write-printed x e = rw only e
+
+      pub write-text : (bytes′ : List ℕ) → bytes′ ≡ printBytes t name names bytes → Written t name names bytes bytes′
+      unfolding bytesWith printBytes
+      write-text bytes′ e = written bytes bytes′ (rw only e)

@@ -1,0 +1,92 @@
+use native.Mathlib.Omega.{arith}
+use lib.Count.{trailingZeros}
+use lib.ListN.{length}
+use lib.Pow.{pow-pos}
+use Rattle.emit.proofs.Buffer.{left-all}
+use Rattle.names.proofs.Names.{name-lent, lent-length, named-lowest, named-rest}
+use Rattle.writer.proofs.Lines.{signals-again, signals-done}
+use Prim.Native.Nat.{_^_, _<_}
+use Rattle.emit.proofs.Buffer.{Left}
+use Rattle.names.specs.Names.{texts, Named}
+use Rattle.writer.specs.Rows.{signalLines}
+use borrow.Author.Needs.{needs}
+use Rattle.writer.proofs.rows.signal_lines.Statement.{statement}
+use Rattle.writer.proofs.rows.signal_lines.Tie as tie
+
+abbrev Inv-loop : tie.InvT-loop
+Inv-loop d₀ at signals inputs names end₀ left₀ d end left =
+    (left < 2 ^ 32) × Named left (texts names) × Left d₀ at (signalLines signals inputs (texts names)) d end (signalLines left inputs (texts names))
+
+abbrev μ-loop : tie.MeasureT-loop
+μ-loop d₀ at signals inputs names end₀ left₀ d end left = left
+
+-- The visited signal has an entry.
+below : (c : tie.After-lowest Inv-loop μ-loop) → c .lowest .result < length (c .before .before .before .before .args .names .now)
+below c =
+    let l = c .before .before in
+    let names = l .before .before .args .names .now in
+    omega (arith, named-lowest _ (l .loop .left) (l .loop .inv .0) (c .before .loop-test .taken) (l .loop .inv .1), lent-length names, c .lowest .ensures)
+
+loop-holds : tie.Need-loop-holds Inv-loop μ-loop
+loop-holds c = (search needs, search needs, left-all _ _ _)
+
+lowest-requires : tie.Need-lowest-requires Inv-loop μ-loop
+lowest-requires c κs = search needs
+
+cast-s : tie.Need-cast-s Inv-loop μ-loop
+cast-s c = search needs
+
+contains-requires : tie.Need-contains-requires Inv-loop μ-loop
+contains-requires c κs = search needs
+
+mul-signal-line : tie.Need-mul-signal-line Inv-loop μ-loop
+mul-signal-line c = search needs
+
+shared-slice-copy-out-signal-line : tie.Need-shared-slice-copy-out-signal-line Inv-loop μ-loop
+shared-slice-copy-out-signal-line c = below (c .before .before)
+
+signal-line-requires : tie.Need-signal-line-requires Inv-loop μ-loop
+signal-line-requires c κs = search needs
+
+rest-requires : tie.Need-rest-requires Inv-loop μ-loop
+rest-requires c κs = search needs
+
+loop-less : tie.Need-loop-less Inv-loop μ-loop
+loop-less c = omega (arith, pow-pos (trailingZeros 32 (c .before .before .before .before .before .before .before .before .before .loop .left)), c .rest .ensures)
+
+loop-again : tie.Need-loop-again Inv-loop μ-loop
+loop-again c =
+    let p = c .before .before .before in
+    let s = p .before .before .before .before in
+    let l = s .before .before in
+    let more = s .before .loop-test .taken in (
+      omega (arith, c .rest .ensures),
+      rw (c .rest .ensures) (named-rest _ (l .loop .left) (l .loop .inv .0) more (l .loop .inv .1)),
+      signals-again _ _ _ _ _ _ _ _ (l .loop .inv .2) (l .loop .inv .0) more _ (s .lowest .ensures) _ (p .before .before .before .contains .ensures)
+          _ (name-lent (l .before .before .args .names .now) _ _ (below s)) _ _ (p .signal-line .ensures) _ (c .rest .ensures),
+    )
+
+same-length : tie.Need-same-length Inv-loop μ-loop
+same-length c = search needs
+
+returns : tie.Need-returns Inv-loop μ-loop
+returns c = signals-done _ _ _ _ _ _ _ _ (c .before .loop .inv .2) (c .loop-test .left)
+
+pub signal-lines-spec : {M : Type 1} → statement M
+signal-lines-spec =
+    tie.close
+    (tie.spec
+    Inv-loop
+    μ-loop
+    loop-holds
+    lowest-requires
+    cast-s
+    contains-requires
+    mul-signal-line
+    shared-slice-copy-out-signal-line
+    signal-line-requires
+    rest-requires
+    loop-less
+    loop-again
+    same-length
+    returns)

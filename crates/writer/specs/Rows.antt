@@ -1,0 +1,36 @@
+-- The lines of a set of signals, of a cell, of a state, of all states.
+use mathlib.Core.Path.{_≡_}
+use mathlib.Core.Bool.{cond}
+use mathlib.Core.List.{List, [], map}
+use Prim.Native.Nat.{ℕ, _+_, _*_, _≤_, _<_}
+use lib.Dec.{ltb}
+use lib.ListN.{length, getD}
+use Rattle.theory.specs.Sets.{has}
+use Rattle.theory.specs.Table.{Table, table}
+use Rattle.text.specs.Writing.{printed, those, signalRow, stepRow, stepRows, ascending}
+use Rattle.emit.specs.Rows.{stepText}
+
+-- The declarations of the signals of a set, by ascending number; those of `inputs` are inputs.
+unfoldable pub signalLines : ℕ → ℕ → List (List ℕ) → List ℕ
+signalLines set inputs names =
+    printed (map (signalRow (table (record { states = 0; initial = 0; inputs = inputs; outputs = 0 }) []) names) (those (has set) 0 32))
+
+-- A cell of n states at the state s; nothing if it holds no step.
+abbrev pub cellText : ℕ → ℕ → List ℕ → ℕ → List ℕ
+cellText n s name cell = cond (ltb cell n) (stepText s name cell) []
+
+-- What the lines of steps depend on: the number of states, and the cells.
+abbrev pub steps : ℕ → List ℕ → Table
+steps n cells = table (record { states = n; initial = 0; inputs = 0; outputs = 0 }) cells
+
+abbrev pub stateLines : ℕ → List ℕ → List (List ℕ) → ℕ → List ℕ
+stateLines n cells names s = printed (map (stepRow (steps n cells) names s) (ascending (steps n cells) s))
+
+abbrev pub stepLines : ℕ → List ℕ → List (List ℕ) → List ℕ
+stepLines n cells names = printed (stepRows (ascending (steps n cells)) (steps n cells) names 0 n)
+
+-- All cells are there, and the signal of every step has an entry.
+pub record Writable (n : ℕ) (cells : List ℕ) (names : List (List ℕ)) : Type 0 where
+  pub few : n ≤ 4096
+  pub size : length cells ≡ n * 32
+  pub named : (s a : ℕ) → s < n → a < 32 → getD cells (s * 32 + a) 65535 < n → a < length names

@@ -1,0 +1,80 @@
+// Writes the text of a table (document 01, "Table text").
+ghost use mathlib.Core.Path.{_≡_};
+ghost use lib.Bits.{bitOr};
+ghost use lib.ListN.{length};
+ghost use Rattle.theory.specs.Table.{table};
+ghost use Rattle.theory.specs.Valid.{Valid};
+ghost use Rattle.theory.specs.Checks.{first};
+ghost use Rattle.text.specs.Writing.{Written};
+ghost use Rattle.names.specs.Names.{texts, Named};
+ghost use Rattle.writer.specs.Replies.{checksBefore, printReply, printBytes, writerReply};
+use theory::Automaton;
+use theory::Checked;
+use theory::Refusal;
+
+mod rows;
+
+// The length of the text, which stands in the lent buffer.
+pub enum Printed {
+    Length(usize),
+    Refused(Refusal),
+}
+
+// All checks but 23, which the length of the text decides.
+fn check(a: Automaton, cells: &[u16], name: &[u8], names: &[&[u8]]) -> Checked
+    ensures { λ r. ⌜ r ≡ first (checksBefore (table a (now (cells .entry))) (now (name .entry)) (texts (now (names .entry)))) ⌝ }
+{
+    let checked = automaton::check(a, cells, 1);
+    let Checked::Accepted = checked else {
+        return checked;
+    };
+    names::check(a, name, names)
+}
+
+// The text by way of a scratch buffer: check 23 leaves the lent one as it was.
+fn print(
+    out: &mut [u8],
+    scratch: &mut [u8],
+    a: Automaton,
+    cells: &[u16],
+    name: &[u8],
+    names: &[&[u8]],
+) -> Printed
+    requires { ⌜ Valid (table a (now cells)) ⌝ }
+    requires { ⌜ Named (bitOr (a .inputs) (a .outputs)) (texts (now names)) ⌝ }
+    requires { ⌜ length (now scratch) ≡ 65536 ⌝ }
+    ensures { λ r. ⌜ r ≡ printReply (table a (now (cells .entry))) (now (name .entry)) (texts (now (names .entry))) (length (now (out .entry))) ⌝ }
+    ensures { λ r. ⌜ now (out .exit) ≡ printBytes (table a (now (cells .entry))) (now (name .entry)) (texts (now (names .entry))) (now (out .entry)) ⌝ }
+{
+    let n = rows::text(scratch, a, cells, name, names);
+    if scratch.len() < n {
+        return Printed::Refused(automaton::refusal(23, 0));
+    }
+    if out.len() < n {
+        return Printed::Refused(automaton::refusal(23, 0));
+    }
+    emit::put(out, 0, &scratch[0..n]);
+    Printed::Length(n)
+}
+
+// The same with a scratch buffer of its own, as long as a text may be.
+fn print_all(out: &mut [u8], a: Automaton, cells: &[u16], name: &[u8], names: &[&[u8]]) -> Printed
+    requires { ⌜ Valid (table a (now cells)) ⌝ }
+    requires { ⌜ Named (bitOr (a .inputs) (a .outputs)) (texts (now names)) ⌝ }
+    ensures { λ r. ⌜ r ≡ printReply (table a (now (cells .entry))) (now (name .entry)) (texts (now (names .entry))) (length (now (out .entry))) ⌝ }
+    ensures { λ r. ⌜ now (out .exit) ≡ printBytes (table a (now (cells .entry))) (now (name .entry)) (texts (now (names .entry))) (now (out .entry)) ⌝ }
+{
+    let mut scratch = [0u8; 65536];
+    print(out, &mut scratch, a, cells, name, names)
+}
+
+// Writes the text of a table with its name and a name for each declared signal; bytes past the text stay.
+pub fn write(a: Automaton, cells: &[u16], name: &[u8], names: &[&[u8]], out: &mut [u8]) -> Printed
+    ensures { λ r. ⌜ r ≡ writerReply (table a (now (cells .entry))) (now (name .entry)) (texts (now (names .entry))) (length (now (out .entry))) ⌝ }
+    ensures { λ r. ⌜ Written (table a (now (cells .entry))) (now (name .entry)) (texts (now (names .entry))) (now (out .entry)) (now (out .exit)) ⌝ }
+{
+    match check(a, cells, name, names) {
+        Checked::Refused(r) => Printed::Refused(r),
+        Checked::Accepted => print_all(out, a, cells, name, names),
+    }
+}

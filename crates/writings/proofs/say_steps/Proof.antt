@@ -1,0 +1,71 @@
+use mathlib.Core.Path.{_≡_}
+use Prim.Native.Nat.{_-_, _≤_}
+use lib.ListN.{length}
+use borrow.Author.Needs.{needs}
+use Rattle.writings.proofs.say_steps.Statement.{statement}
+use Rattle.writings.proofs.say_steps.Tie as tie
+use Rattle.writings.proofs.say_steps.Reads as reads
+use Rattle.writings.proofs.say_steps.Lts as lts
+use Rattle.writings.proofs.say.Reads as say-reads
+use Rattle.writings.proofs.say_step.Reads as say-step-reads
+
+abbrev Inv-loop : tie.InvT-loop
+Inv-loop cells k₀ t4 k-end k = (k-end ≡ length cells) × (k ≤ k-end)
+
+abbrev μ-loop : tie.MeasureT-loop
+μ-loop cells k₀ t4 k-end k = k-end - k
+
+slice-aggregate-say : tie.Need-slice-aggregate-say Inv-loop μ-loop
+slice-aggregate-say c = search needs
+
+say-requires : tie.Need-say-requires Inv-loop μ-loop
+say-requires c κs = search needs
+
+loop-holds : tie.Need-loop-holds Inv-loop μ-loop
+loop-holds c = search needs
+
+mul-say-step : tie.Need-mul-say-step Inv-loop μ-loop
+mul-say-step c = search needs
+
+shared-slice-read-say-step : tie.Need-shared-slice-read-say-step Inv-loop μ-loop
+shared-slice-read-say-step c = search needs
+
+say-step-requires : tie.Need-say-step-requires Inv-loop μ-loop
+say-step-requires c κs = search needs
+
+add-k : tie.Need-add-k Inv-loop μ-loop
+add-k c = search needs
+
+loop-less : tie.Need-loop-less Inv-loop μ-loop
+loop-less c = search needs
+
+loop-again : tie.Need-loop-again Inv-loop μ-loop
+loop-again c = search needs
+
+slice-aggregate-say-2 : tie.Need-slice-aggregate-say-2 Inv-loop μ-loop
+slice-aggregate-say-2 c = search needs
+
+say-requires-2 : tie.Need-say-requires-2 Inv-loop μ-loop
+say-requires-2 c κs = search needs
+
+returns : tie.Need-returns Inv-loop μ-loop
+returns c = search needs
+
+pub say-steps-spec : {M : Type 1} → statement M
+say-steps-spec =
+    tie.close
+    (tie.spec
+    Inv-loop
+    μ-loop
+    slice-aggregate-say
+    say-requires
+    loop-holds
+    mul-say-step
+    shared-slice-read-say-step
+    say-step-requires
+    add-k
+    loop-less
+    loop-again
+    slice-aggregate-say-2
+    say-requires-2
+    returns)

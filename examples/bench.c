@@ -1,0 +1,152 @@
+/*
+ * A bench program: the tables of document 01 (and two of source 001) as byte tables, their fit and refinement, and one startup followed signal
+ * by signal through a record that this program lends. It prints one line for each call; examples/bench.out has what it must print.
+ */
+#include "moqresam.h"
+
+#include <stdio.h>
+
+#define MOST_STATES 8
+
+struct table {
+    const char *name;
+    size_t states;
+    size_t initial;
+    uint32_t inputs;
+    uint32_t outputs;
+    uint8_t cells[MOST_STATES * MOQRESAM_STATE_BYTES];
+};
+
+struct step {
+    size_t from;
+    size_t signal;
+    size_t to;
+};
+
+/* The signals of document 01's tables, and those of source 001. */
+enum { POWER, SETTLED, START, READ };
+enum { MSG, OK, FAIL, SEND, ACK, NACK };
+
+#define SET(signal) (UINT32_C(1) << (signal))
+#define COUNT(list) (sizeof(list) / sizeof((list)[0]))
+
+static const char *const signal_names[] = {"power", "settled", "start", "read"};
+
+static const struct step ref_steps[] = {{0, POWER, 1}, {1, SETTLED, 2}};
+static const struct step ref21_steps[] = {{0, POWER, 1}, {1, SETTLED, 2}, {2, POWER, 1}};
+static const struct step cal_steps[] = {{0, POWER, 1}, {1, SETTLED, 2}, {2, READ, 3}};
+static const struct step hasty_steps[] = {{0, POWER, 1}, {1, READ, 2}};
+static const struct step plan_steps[] = {{0, START, 1}, {1, POWER, 2}, {2, SETTLED, 3}, {3, READ, 4}};
+
+/* Source 001, Figure 1: Comp sends a message, once more if the first time fails; User makes no provision for failure. */
+static const struct step user_steps[] = {{0, MSG, 1}, {1, OK, 0}};
+static const struct step comp_steps[] = {
+    {0, MSG, 1}, {1, SEND, 2}, {2, ACK, 5}, {2, NACK, 3}, {3, SEND, 4}, {4, ACK, 5}, {4, NACK, 6}, {5, OK, 0}, {6, FAIL, 0}};
+
+/* Writes a table's cells, two bytes each, low byte first: no step but those given. */
+static struct table make(const char *name, size_t states, uint32_t inputs, uint32_t outputs, const struct step *steps, size_t count)
+{
+    struct table t = {name, states, 0, inputs, outputs, {0}};
+    size_t k;
+
+    for (k = 0; k < states * MOQRESAM_STATE_BYTES; k++)
+        t.cells[k] = 0xff;
+    for (k = 0; k < count; k++) {
+        size_t at = 2 * (steps[k].from * 32 + steps[k].signal);
+
+        t.cells[at] = (uint8_t)(steps[k].to & 0xff);
+        t.cells[at + 1] = (uint8_t)(steps[k].to >> 8);
+    }
+    return t;
+}
+
+static void fit(const struct table *a, const struct table *b)
+{
+    uint8_t flags[MOST_STATES * MOST_STATES] = {0};
+    size_t pairs = a->states * b->states;
+    size_t kept = 0;
+    size_t k;
+    moqresam_fit_reply r = moqresam_fit(
+        a->states, a->initial, a->inputs, a->outputs, a->cells, a->states * MOQRESAM_STATE_BYTES,
+        b->states, b->initial, b->inputs, b->outputs, b->cells, b->states * MOQRESAM_STATE_BYTES, flags, pairs);
+
+    printf("fit %s %s: ", a->name, b->name);
+    if (r.number != MOQRESAM_ACCEPTED) {
+        printf("refused %u, table %u\n", (unsigned)r.number, (unsigned)r.table);
+        return;
+    }
+    for (k = 0; k < pairs; k++)
+        kept += flags[k] == 1;
+    printf("%s, rounds %zu, kept %zu of %zu:", r.compatible ? "yes" : "no", r.rounds, kept, pairs);
+    for (k = 0; k < pairs; k++)
+        if (flags[k] == 1)
+            printf(" (%zu,%zu)", k / b->states, k % b->states);
+    printf("\n");
+}
+
+static void refine(const struct table *a, const struct table *b)
+{
+    uint8_t marks[MOST_STATES * MOST_STATES] = {0};
+    size_t pairs = a->states * b->states;
+    size_t k;
+    moqresam_refine_reply r = moqresam_refine(
+        a->states, a->initial, a->inputs, a->outputs, a->cells, a->states * MOQRESAM_STATE_BYTES,
+        b->states, b->initial, b->inputs, b->outputs, b->cells, b->states * MOQRESAM_STATE_BYTES, marks, pairs);
+
+    printf("refine %s %s: ", a->name, b->name);
+    if (r.number != MOQRESAM_ACCEPTED) {
+        printf("refused %u, table %u\n", (unsigned)r.number, (unsigned)r.table);
+        return;
+    }
+    printf("%s, marked:", r.refines ? "yes" : "no");
+    for (k = 0; k < pairs; k++)
+        if (marks[k] == 1)
+            printf(" (%zu,%zu)", k / b->states, k % b->states);
+    printf("\n");
+}
+
+/* One signal of the bench: the record moves along the table, or stays where it is. */
+static void signal_came(const struct table *t, moqresam_follower *follower, size_t signal)
+{
+    size_t before = follower->state;
+    moqresam_follow_reply r = moqresam_follow_record(
+        t->states, t->initial, t->inputs, t->outputs, t->cells, t->states * MOQRESAM_STATE_BYTES, follower, signal);
+
+    printf("%s at %zu, ", t->name, before);
+    if (signal < COUNT(signal_names))
+        printf("%s: ", signal_names[signal]);
+    else
+        printf("signal %zu: ", signal);
+    if (r.number != MOQRESAM_ACCEPTED)
+        printf("refused %u", (unsigned)r.number);
+    else if (r.moved)
+        printf("moved to %zu", r.state);
+    else
+        printf("not now");
+    printf(", at %zu\n", follower->state);
+}
+
+int main(void)
+{
+    struct table ref = make("ref", 3, SET(POWER), SET(SETTLED), ref_steps, COUNT(ref_steps));
+    struct table ref21 = make("ref21", 3, SET(POWER), SET(SETTLED), ref21_steps, COUNT(ref21_steps));
+    struct table cal = make("cal", 4, SET(SETTLED), SET(POWER) | SET(READ), cal_steps, COUNT(cal_steps));
+    struct table hasty = make("hasty", 3, SET(SETTLED), SET(POWER) | SET(READ), hasty_steps, COUNT(hasty_steps));
+    struct table plan = make("plan", 5, SET(START), SET(POWER) | SET(SETTLED) | SET(READ), plan_steps, COUNT(plan_steps));
+    struct table user = make("User", 2, SET(OK) | SET(FAIL), SET(MSG), user_steps, COUNT(user_steps));
+    struct table comp = make("Comp", 7, SET(MSG) | SET(ACK) | SET(NACK), SET(OK) | SET(FAIL) | SET(SEND), comp_steps, COUNT(comp_steps));
+    static const size_t startup[] = {POWER, START, READ, START, POWER, SETTLED, SETTLED, 9, READ, START, 32};
+    moqresam_follower follower = {0};
+    size_t k;
+
+    fit(&ref, &cal);
+    fit(&ref, &hasty);
+    fit(&ref, &ref);
+    fit(&user, &comp);
+    refine(&ref, &ref);
+    refine(&ref21, &ref);
+    refine(&ref, &ref21);
+    for (k = 0; k < COUNT(startup); k++)
+        signal_came(&plan, &follower, startup[k]);
+    return 0;
+}

@@ -1,0 +1,120 @@
+/*
+ * Moqresam from C: whether two startup tables fit, whether one refines the other, and what the follower of a table does at a signal.
+ *
+ * A table is an interface automaton: `states` states numbered from 0, of which `initial` is the first; its inputs and outputs, each a set of the
+ * signals 0 to 31 (signal s is in the set if bit s is 1); and its cells, 32 for each state in state order. The cell at state * 32 + signal is
+ * the next state, or MOQRESAM_NO_STEP. A cell is two bytes, low byte first, so a table has states * 64 bytes of cells.
+ *
+ * Every call takes every argument: what is wrong with it is a refusal, with the number below. The first check that applies counts; for two
+ * tables, 1 to 6 run for the first table, then for the second. A refused call leaves the flags, the marks and the follower as they were.
+ *
+ * What no call can see, and a caller has to keep: a pointer is to as many bytes as the length beside it says, or NULL with length 0; a buffer
+ * that a call writes to does not overlap one that it reads; a follower is not NULL.
+ *
+ * Nothing is allocated and no state is kept, so calls may run at the same time on different buffers. Fit and refine want up to 1.4 MB of stack,
+ * of which 0.9 MB also where the pairs are few; follow wants less than 1 KB.
+ */
+#ifndef MOQRESAM_H
+#define MOQRESAM_H
+
+#include <stdbool.h>
+#include <stddef.h>
+#include <stdint.h>
+
+#ifdef __cplusplus
+extern "C" {
+#endif
+
+/* The cell without a step, and the bytes of cells that a table of so many states has. */
+#define MOQRESAM_NO_STEP 65535u
+#define MOQRESAM_STATE_BYTES 64u
+#define MOQRESAM_MOST_STATES 4096u
+#define MOQRESAM_MOST_PAIRS 4096u
+
+/* Why a call is turned away. The names of tables: 1 the first, or the only one; 2 the second; 0 neither, for 7 to 10. */
+enum moqresam_refusal {
+    MOQRESAM_ACCEPTED = 0,
+    MOQRESAM_STATES = 1,         /* the table has no state or more than 4,096 */
+    MOQRESAM_INITIAL = 2,        /* its first state is not below its number of states */
+    MOQRESAM_SHARED = 3,         /* a signal is in both of its lists */
+    MOQRESAM_CELL_BYTES = 4,     /* its cells are not states * 64 bytes */
+    MOQRESAM_CELL = 5,           /* a cell is neither 65,535 nor below the number of states */
+    MOQRESAM_UNDECLARED = 6,     /* a cell holds a step for a signal in neither list */
+    MOQRESAM_OUTPUT_OF_BOTH = 7, /* fit: a signal is an output of both tables */
+    MOQRESAM_PAIRS = 9,          /* the two state counts multiply to more than 4,096 */
+    MOQRESAM_BUFFER = 10,        /* the flags or marks are not exactly one byte a pair */
+    MOQRESAM_STATE = 11,         /* the follower's state is not below the number of states */
+    MOQRESAM_SIGNAL = 12         /* the signal exceeds 31 or is in neither list */
+};
+
+/*
+ * Fit: checks 1 to 6 of each table, 7, 9, 10.
+ *
+ * Accepted: number and table are 0; compatible says whether the first pair is kept; rounds counts the rounds that drop a pair; the flag of the
+ * pair (p, q), at p * states_b + q, is 1 if the pair is kept and 0 if it is dropped, with either verdict.
+ * Refused: number and table say why, compatible is false, rounds is 0.
+ */
+typedef struct {
+    uint32_t number;
+    uint32_t table;
+    bool compatible;
+    size_t rounds;
+} moqresam_fit_reply;
+
+moqresam_fit_reply moqresam_fit(
+    size_t states_a, size_t initial_a, uint32_t inputs_a, uint32_t outputs_a, const uint8_t *cells_a, size_t cells_a_length,
+    size_t states_b, size_t initial_b, uint32_t inputs_b, uint32_t outputs_b, const uint8_t *cells_b, size_t cells_b_length,
+    uint8_t *flags, size_t flags_length);
+
+/*
+ * Refinement, whether the first table refines the second: checks 1 to 6 of each, 9, 10.
+ *
+ * Accepted: number and table are 0; refines is the verdict; the mark of the pair (x, y), at x * states_b + y, is 1 if the largest alternating
+ * simulation holds it, else 0. Where the lists alone forbid refinement, all marks are 0.
+ * Refused: number and table say why, refines is false.
+ */
+typedef struct {
+    uint32_t number;
+    uint32_t table;
+    bool refines;
+} moqresam_refine_reply;
+
+moqresam_refine_reply moqresam_refine(
+    size_t states_a, size_t initial_a, uint32_t inputs_a, uint32_t outputs_a, const uint8_t *cells_a, size_t cells_a_length,
+    size_t states_b, size_t initial_b, uint32_t inputs_b, uint32_t outputs_b, const uint8_t *cells_b, size_t cells_b_length,
+    uint8_t *marks, size_t marks_length);
+
+/*
+ * The follower, by value: checks 1 to 4, 11, 12, then 5 of its own cell alone.
+ *
+ * A step: number and table are 0, moved is true, state is the new state. "Not now": number and table are 0, moved is false, state is the state
+ * given. Refused: number says why, table is 1, moved is false, state is the state given.
+ */
+typedef struct {
+    uint32_t number;
+    uint32_t table;
+    bool moved;
+    size_t state;
+} moqresam_follow_reply;
+
+moqresam_follow_reply moqresam_follow(
+    size_t states, size_t initial, uint32_t inputs, uint32_t outputs, const uint8_t *cells, size_t cells_length,
+    size_t state, size_t signal);
+
+/*
+ * The follower as a record that the caller lends: moved, it holds the new state; "not now" or refused, it is as it was. The reply is that of
+ * moqresam_follow at the state that the record held.
+ */
+typedef struct {
+    size_t state;
+} moqresam_follower;
+
+moqresam_follow_reply moqresam_follow_record(
+    size_t states, size_t initial, uint32_t inputs, uint32_t outputs, const uint8_t *cells, size_t cells_length,
+    moqresam_follower *follower, size_t signal);
+
+#ifdef __cplusplus
+}
+#endif
+
+#endif

@@ -1,0 +1,82 @@
+#!/usr/bin/env bash
+# The C boundary: builds the archive, compiles the header as C and as C++, runs the C tests, the comparison with a plain implementation and the
+# bench program, each as built for release and under the address and undefined behaviour sanitizers; the bench program under valgrind too. The
+# last line is 'N passed, M failed'. It is run after `rt ci`, which removes target/.
+set -u
+unset CDPATH
+cd -- "$(dirname -- "$0")/.." || { echo "0 passed, 1 failed"; exit 1; }
+
+passed=0
+failed=0
+work=$(mktemp -d) || { echo "0 passed, 1 failed"; exit 1; }
+finish() {
+    rm -rf "$work"
+    echo "$passed passed, $failed failed"
+    [ "$failed" -eq 0 ] && [ "$passed" -gt 0 ]
+    exit $?
+}
+trap finish EXIT
+trap 'failed=$((failed + 1)); exit 1' HUP INT TERM
+
+archive=target/staticlib/libmoqresam.a
+strict=(-Wall -Wextra -Werror -pedantic -Iinclude)
+sanitize=(-g -O1 -fsanitize=address,undefined -fno-sanitize-recover=all)
+
+# try WHAT COMMAND..: passes if the command does; what it says is shown if not.
+try() {
+    local what=$1
+    shift
+    if "$@" >"$work/log" 2>&1; then
+        passed=$((passed + 1))
+        echo "boundary: $what: passed"
+    else
+        failed=$((failed + 1))
+        cat "$work/log"
+        echo "boundary: $what: FAILED"
+    fi
+}
+
+compile() {
+    local to=$1 from=$2
+    shift 2
+    gcc -std=c99 "${strict[@]}" "$@" "$from" "$archive" -o "$work/$to"
+}
+
+# What the bench program prints, held to examples/bench.out.
+bench_prints() {
+    "$work/$1" >"$work/printed" && diff examples/bench.out "$work/printed"
+}
+
+# The tests' own count; `run` adds it, `counts` asks only that nothing failed.
+counts() {
+    "$work/$1" | tail -n 1 | grep -q '^[1-9][0-9]* passed, 0 failed$'
+}
+
+run() {
+    local line
+    line=$("$work/$1" | tee "$work/said" | tail -n 1)
+    if [[ $line =~ ^([0-9]+)\ passed,\ ([0-9]+)\ failed$ ]]; then
+        grep '^failed' "$work/said"
+        passed=$((passed + BASH_REMATCH[1]))
+        failed=$((failed + BASH_REMATCH[2]))
+    else
+        failed=$((failed + 1))
+        echo "boundary: $1: FAILED, no count"
+    fi
+}
+
+try "archive" rt staticlib moqresam
+try "header as C" gcc -std=c99 "${strict[@]}" -fsyntax-only -x c include/moqresam.h
+try "header as C++" g++ -std=c++11 "${strict[@]}" -fsyntax-only -x c++ include/moqresam.h
+for program in tests/boundary tests/boundary_random examples/bench; do
+    name=$(basename "$program")
+    try "$name compiles" compile "$name" "$program.c" -O2
+    try "$name compiles, sanitized" compile "${name}_sanitized" "$program.c" "${sanitize[@]}"
+done
+try "bench prints what it must" bench_prints bench
+try "bench prints what it must, sanitized" bench_prints bench_sanitized
+try "bench under valgrind" valgrind -q --error-exitcode=9 --leak-check=full "$work/bench"
+try "boundary passes, sanitized" counts boundary_sanitized
+try "boundary_random passes, sanitized" counts boundary_random_sanitized
+run boundary
+run boundary_random
