@@ -5,16 +5,12 @@ ghost use lib.ListN.{length};
 ghost use Rattle.automaton.specs.Replies.{followReply};
 ghost use Rattle.composition.specs.Replies.{compatibilityReply, compatibilityFlags};
 ghost use Rattle.refinement.specs.Replies.{refinementReply, refinementMarks};
-ghost use Rattle.cells.specs.Bytes.{byteTable, tableOfBytes};
+ghost use Rattle.cells.specs.Bytes.{tableOfBytes};
 ghost use Rattle.moqresam.specs.Replies.{fitReply, refineReply, monitorReply, stateAfter};
 use automaton::Followed;
 use composition::Compatibility;
 use refinement::Refined;
 use theory::Automaton;
-use theory::Checked;
-
-mod fits;
-mod refines;
 
 #[repr(C)]
 pub struct FitReply {
@@ -106,16 +102,6 @@ pub struct Follower {
     pub state: usize,
 }
 
-// One step of the monitor. It reads its own cell and no other, so a step takes as long in a large table as in a small one.
-fn follow(a: Automaton, bytes: &[u8], state: usize, signal: usize) -> Followed
-    ensures { λ r. ⌜ r ≡ followReply (byteTable a (now (bytes .entry))) state signal ⌝ }
-{
-    match automaton::check_place(a, cells::count(a.states, bytes.len()), state, signal) {
-        Checked::Refused(r) => Followed::Refused(r),
-        Checked::Accepted => automaton::advance(cells::at(bytes, state * 32 + signal), a.states),
-    }
-}
-
 // Whether two tables fit; the flags are in the lent buffer.
 #[no_mangle]
 pub extern "C" fn moqresam_fit(
@@ -146,7 +132,7 @@ pub extern "C" fn moqresam_fit(
         inputs: inputs_b,
         outputs: outputs_b,
     };
-    fit_reply(fits::fit(a, cells_a, b, cells_b, flags))
+    fit_reply(packed::fit(a, cells_a, b, cells_b, flags))
 }
 
 // Whether the first table refines the second; the marks are in the lent buffer.
@@ -179,7 +165,7 @@ pub extern "C" fn moqresam_refine(
         inputs: inputs_b,
         outputs: outputs_b,
     };
-    refine_reply(refines::refine(a, cells_a, b, cells_b, marks))
+    refine_reply(packed::refine(a, cells_a, b, cells_b, marks))
 }
 
 // The follower at a state, for a signal.
@@ -201,7 +187,7 @@ pub extern "C" fn moqresam_follow(
         inputs,
         outputs,
     };
-    follow_reply(state, follow(a, cells, state, signal))
+    follow_reply(state, packed::follow(a, cells, state, signal))
 }
 
 // The follower as a record that the firmware lends: a step over the one by value.

@@ -1,7 +1,7 @@
-use Rattle.moqresam.proofs.Laws.{room-64}
+use Rattle.packed.proofs.Laws.{room-64}
 use borrow.Author.Needs.{needs}
-use Rattle.moqresam.proofs.refines.refine_64.Statement.{statement}
-use Rattle.moqresam.proofs.refines.refine_64.Tie as tie
+use Rattle.packed.proofs.refines.refine_64.Statement.{statement}
+use Rattle.packed.proofs.refines.refine_64.Tie as tie
 
 count-requires : tie.Need-count-requires
 count-requires c κs = search needs

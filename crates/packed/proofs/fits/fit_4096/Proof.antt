@@ -1,7 +1,7 @@
-use Rattle.moqresam.proofs.Laws.{room-4096}
+use Rattle.packed.proofs.Laws.{room-4096}
 use borrow.Author.Needs.{needs}
-use Rattle.moqresam.proofs.fits.fit_4096.Statement.{statement}
-use Rattle.moqresam.proofs.fits.fit_4096.Tie as tie
+use Rattle.packed.proofs.fits.fit_4096.Statement.{statement}
+use Rattle.packed.proofs.fits.fit_4096.Tie as tie
 
 count-requires : tie.Need-count-requires
 count-requires c κs = search needs

@@ -1,7 +1,7 @@
-use Rattle.moqresam.proofs.Laws.{bytes-refused, bytes-row, bytes-cell, bytes-own}
+use Rattle.packed.proofs.Laws.{bytes-refused, bytes-row, bytes-cell, bytes-own}
 use borrow.Author.Needs.{needs}
-use Rattle.moqresam.proofs.follow.Statement.{statement}
-use Rattle.moqresam.proofs.follow.Tie as tie
+use Rattle.packed.proofs.follow.Statement.{statement}
+use Rattle.packed.proofs.follow.Tie as tie
 
 count-requires : tie.Need-count-requires
 count-requires c κs = search needs
