@@ -1,0 +1,17 @@
+use mathlib.Core.Path.{_∙_, ap}
+use Rattle.harness.specs.Replies.{judged}
+use borrow.Author.Needs.{needs}
+use Rattle.harness.proofs.ones.harness_judge.Statement.{statement}
+use Rattle.harness.proofs.ones.harness_judge.Tie as tie
+
+judge-requires : tie.Need-judge-requires
+judge-requires c κs = search needs
+
+judged-requires : tie.Need-judged-requires
+judged-requires c κs = search needs
+
+returns : tie.Need-returns
+returns c = c .judged .ensures ∙ ap judged (c .before .judge .ensures)
+
+pub harness-judge-spec : {M : Type 1} → statement M
+harness-judge-spec = tie.close (tie.spec judge-requires judged-requires returns)

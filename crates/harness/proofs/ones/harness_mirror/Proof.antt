@@ -1,0 +1,17 @@
+use mathlib.Core.Path.{_∙_, ap}
+use Rattle.harness.specs.Replies.{mirrored}
+use borrow.Author.Needs.{needs}
+use Rattle.harness.proofs.ones.harness_mirror.Statement.{statement}
+use Rattle.harness.proofs.ones.harness_mirror.Tie as tie
+
+mirror-requires : tie.Need-mirror-requires
+mirror-requires c κs = search needs
+
+mirrored-requires : tie.Need-mirrored-requires
+mirrored-requires c κs = search needs
+
+returns : tie.Need-returns
+returns c = c .mirrored .ensures ∙ ap mirrored (c .before .mirror .ensures)
+
+pub harness-mirror-spec : {M : Type 1} → statement M
+harness-mirror-spec = tie.close (tie.spec mirror-requires mirrored-requires returns)

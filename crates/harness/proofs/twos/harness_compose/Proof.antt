@@ -1,0 +1,26 @@
+use mathlib.Core.Path.{_∙_, ap}
+use Rattle.harness.specs.Replies.{composed}
+use borrow.Author.Needs.{needs}
+use Rattle.harness.proofs.twos.harness_compose.Statement.{statement}
+use Rattle.harness.proofs.twos.harness_compose.Tie as tie
+
+compose-requires : tie.Need-compose-requires
+compose-requires c κs = search needs
+
+composed-requires : tie.Need-composed-requires
+composed-requires c κs = search needs
+
+same-length : tie.Need-same-length
+same-length c = search needs
+
+same-length-2 : tie.Need-same-length-2
+same-length-2 c = search needs
+
+returns : tie.Need-returns
+returns c =
+    let called = c .before .before .before .before .before .compose .ensures in
+    (c .composed .ensures ∙ ap composed (called .0), called .1)
+
+pub harness-compose-spec : {M : Type 1} → statement M
+harness-compose-spec =
+    tie.close (tie.spec compose-requires composed-requires same-length same-length-2 returns)

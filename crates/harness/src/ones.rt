@@ -1,0 +1,96 @@
+// The calls on one table, and the counts.
+ghost use mathlib.Core.Path.{_≡_};
+ghost use Rattle.theory.specs.Table.{keptCount};
+ghost use Rattle.theory.specs.Checks.{first, tableChecks};
+ghost use Rattle.automaton.specs.Replies.{mirrorReply, followReply};
+ghost use Rattle.counts.specs.Cells.{stepsIn, endsIn};
+ghost use Rattle.harness.specs.Replies.{tableOf, judged, mirrored, followed};
+use crate::Reply;
+use crate::replies;
+use theory::Automaton;
+
+// Whether the table is sound.
+#[no_mangle]
+pub extern "C" fn harness_judge(
+    states: usize,
+    initial: usize,
+    inputs: u32,
+    outputs: u32,
+    cells: &[u16],
+) -> Reply
+    ensures { λ r. ⌜ r ≡ judged (first (tableChecks 1 (tableOf states initial inputs outputs (now (cells .entry))))) ⌝ }
+{
+    let a = Automaton {
+        states,
+        initial,
+        inputs,
+        outputs,
+    };
+    replies::judged(automaton::judge(a, cells))
+}
+
+// The mirror's numbers; its cells are the table's own.
+#[no_mangle]
+pub extern "C" fn harness_mirror(
+    states: usize,
+    initial: usize,
+    inputs: u32,
+    outputs: u32,
+    cells: &[u16],
+) -> Reply
+    ensures { λ r. ⌜ r ≡ mirrored (mirrorReply (tableOf states initial inputs outputs (now (cells .entry)))) ⌝ }
+{
+    let a = Automaton {
+        states,
+        initial,
+        inputs,
+        outputs,
+    };
+    replies::mirrored(automaton::mirror(a, cells))
+}
+
+// The follower at a state, for a signal.
+#[no_mangle]
+pub extern "C" fn harness_follow(
+    states: usize,
+    initial: usize,
+    inputs: u32,
+    outputs: u32,
+    cells: &[u16],
+    state: usize,
+    signal: usize,
+) -> Reply
+    ensures { λ r. ⌜ r ≡ followed state (followReply (tableOf states initial inputs outputs (now (cells .entry))) state signal) ⌝ }
+{
+    let a = Automaton {
+        states,
+        initial,
+        inputs,
+        outputs,
+    };
+    replies::followed(state, automaton::follow(a, cells, state, signal))
+}
+
+// How many bytes are 1.
+#[no_mangle]
+pub extern "C" fn harness_count_kept(flags: &[u8]) -> usize
+    ensures { λ r. ⌜ r ≡ keptCount (now (flags .entry)) ⌝ }
+{
+    counts::count_kept(flags)
+}
+
+// How many cells hold a step.
+#[no_mangle]
+pub extern "C" fn harness_count_steps(states: usize, cells: &[u16]) -> usize
+    ensures { λ r. ⌜ r ≡ stepsIn states (now (cells .entry)) ⌝ }
+{
+    counts::count_steps(states, cells)
+}
+
+// How many rows hold none.
+#[no_mangle]
+pub extern "C" fn harness_count_ends(states: usize, cells: &[u16]) -> usize
+    ensures { λ r. ⌜ r ≡ endsIn states (now (cells .entry)) ⌝ }
+{
+    counts::count_ends(states, cells)
+}

@@ -1,0 +1,107 @@
+// The calls on table text.
+ghost use mathlib.Core.Path.{_≡_};
+ghost use Prim.Native.Nat.{_≤_};
+ghost use lib.ListN.{length};
+ghost use Rattle.text.specs.Reading.{readAlone, readBoth, cellsAlone, cellsFirst, cellsSecond};
+ghost use Rattle.text.specs.Lookup.{lookup, lookupNumber, lookupAlone, lookupNumberAlone};
+ghost use Rattle.text.specs.Writing.{Written};
+ghost use Rattle.reader.specs.Replies.{aloneReply, togetherReply};
+ghost use Rattle.emit.specs.Buffer.{stored};
+ghost use Rattle.names.specs.Names.{texts};
+ghost use Rattle.writer.specs.Replies.{writerReply};
+ghost use Rattle.report.specs.Report.{roomOf, Reported, cellsLeft, flagsLeft};
+ghost use Rattle.harness.specs.Replies.{tableOf, aloneRead, togetherRead, named, written};
+use crate::Reply;
+use crate::replies;
+use theory::Automaton;
+
+// A text read alone; the table's cells are in the lent buffer.
+#[no_mangle]
+pub extern "C" fn harness_read_alone(m: &[u8], cells: &mut [u16]) -> Reply
+    ensures { λ r. ⌜ r ≡ aloneRead (aloneReply (readAlone (length (now (cells .entry))) (now (m .entry)))) ⌝ }
+    ensures { λ r. ⌜ now (cells .exit) ≡ cellsAlone (length (now (cells .entry))) (readAlone (length (now (cells .entry))) (now (m .entry))) ⌝ }
+{
+    replies::read_alone(reader::read_alone(m, cells))
+}
+
+// A module's and a plan's text read together; the tables' cells are in the lent buffers.
+#[no_mangle]
+pub extern "C" fn harness_read_together<'a>(
+    m: &'a [u8],
+    p: &'a [u8],
+    cm: &mut [u16],
+    cp: &mut [u16],
+) -> Reply
+    ensures { λ r. ⌜ r ≡ togetherRead (togetherReply (readBoth (length (now (cm .entry))) (now (m .entry)) (length (now (cp .entry))) (now (p .entry)))) ⌝ }
+    ensures { λ r. ⌜ now (cm .exit) ≡ cellsFirst (length (now (cm .entry))) (readBoth (length (now (cm .entry))) (now (m .entry)) (length (now (cp .entry))) (now (p .entry))) ⌝ }
+    ensures { λ r. ⌜ now (cp .exit) ≡ cellsSecond (length (now (cp .entry))) (readBoth (length (now (cm .entry))) (now (m .entry)) (length (now (cp .entry))) (now (p .entry))) ⌝ }
+{
+    replies::read_together(reader::read_together(m, p, cm, cp))
+}
+
+// The name of a signal in two texts read together, put into the lent buffer as far as there is room.
+#[no_mangle]
+pub extern "C" fn harness_name<'a>(m: &'a [u8], p: &'a [u8], signal: usize, out: &mut [u8]) -> Reply
+    ensures { λ r. ⌜ r ≡ named (lookupNumber (now (m .entry)) (now (p .entry)) signal) (lookup (now (m .entry)) (now (p .entry)) signal .name) ⌝ }
+    ensures { λ r. ⌜ now (out .exit) ≡ stored (now (out .entry)) 0 (lookup (now (m .entry)) (now (p .entry)) signal .name) ⌝ }
+{
+    let name = lookup::name(m, p, signal);
+    emit::put(out, 0, name);
+    replies::bare(lookup::number(m, p, signal), 0, 0, false, name.len())
+}
+
+// The same in a text read alone.
+#[no_mangle]
+pub extern "C" fn harness_name_alone(m: &[u8], signal: usize, out: &mut [u8]) -> Reply
+    ensures { λ r. ⌜ r ≡ named (lookupNumberAlone (now (m .entry)) signal) (lookupAlone (now (m .entry)) signal .name) ⌝ }
+    ensures { λ r. ⌜ now (out .exit) ≡ stored (now (out .entry)) 0 (lookupAlone (now (m .entry)) signal .name) ⌝ }
+{
+    let name = lookup::name_alone(m, signal);
+    emit::put(out, 0, name);
+    replies::bare(lookup::number_alone(m, signal), 0, 0, false, name.len())
+}
+
+// The text of a table, in the lent buffer.
+#[no_mangle]
+pub extern "C" fn harness_write(
+    states: usize,
+    initial: usize,
+    inputs: u32,
+    outputs: u32,
+    cells: &[u16],
+    name: &[u8],
+    names: &[&[u8]],
+    out: &mut [u8],
+) -> Reply
+    ensures { λ r. ⌜ r ≡ written (writerReply (tableOf states initial inputs outputs (now (cells .entry))) (now (name .entry)) (texts (now (names .entry))) (length (now (out .entry)))) ⌝ }
+    ensures { λ r. ⌜ Written (tableOf states initial inputs outputs (now (cells .entry))) (now (name .entry)) (texts (now (names .entry))) (now (out .entry)) (now (out .exit)) ⌝ }
+{
+    let a = Automaton {
+        states,
+        initial,
+        inputs,
+        outputs,
+    };
+    replies::written(writer::write(a, cells, name, names, out))
+}
+
+// What the bench program prints for two texts, in the lent buffer; returns where it ends.
+#[no_mangle]
+pub extern "C" fn harness_report<'a>(
+    m: &'a [u8],
+    p: &'a [u8],
+    cm: &mut [u16],
+    cp: &mut [u16],
+    cells: &mut [u16],
+    flags: &mut [u8],
+    out: &mut [u8],
+) -> usize
+    ensures { λ r. ⌜ Reported (now (m .entry)) (now (p .entry)) (length (now (cm .entry))) (length (now (cp .entry))) (roomOf (length (now (cells .entry))) (length (now (flags .entry)))) (now (out .entry)) r (now (out .exit)) ⌝ }
+    ensures { λ r. ⌜ now (cm .exit) ≡ cellsFirst (length (now (cm .entry))) (readBoth (length (now (cm .entry))) (now (m .entry)) (length (now (cp .entry))) (now (p .entry))) ⌝ }
+    ensures { λ r. ⌜ now (cp .exit) ≡ cellsSecond (length (now (cp .entry))) (readBoth (length (now (cm .entry))) (now (m .entry)) (length (now (cp .entry))) (now (p .entry))) ⌝ }
+    ensures { λ r. ⌜ now (cells .exit) ≡ cellsLeft (now (cells .entry)) (length (now (flags .entry))) (readBoth (length (now (cm .entry))) (now (m .entry)) (length (now (cp .entry))) (now (p .entry))) ⌝ }
+    ensures { λ r. ⌜ now (flags .exit) ≡ flagsLeft (length (now (cells .entry))) (now (flags .entry)) (readBoth (length (now (cm .entry))) (now (m .entry)) (length (now (cp .entry))) (now (p .entry))) ⌝ }
+    ensures { λ r. ⌜ r ≤ 65608 ⌝ }
+{
+    report::report(m, p, cm, cp, cells, flags, out)
+}

@@ -1,0 +1,179 @@
+// The calls on two tables.
+ghost use mathlib.Core.Path.{_≡_};
+ghost use lib.ListN.{length};
+ghost use Rattle.composition.specs.Replies.{productReply, productCells, compatibilityReply, compatibilityFlags, compositionReply, compositionCells, compositionFlags};
+ghost use Rattle.refinement.specs.Replies.{refinementReply, refinementMarks};
+ghost use Rattle.synthesis.specs.Replies.{synthesisReply, synthesisCells, synthesisFlags};
+ghost use Rattle.harness.specs.Replies.{tableOf, multiplied, fitted, composed, refined, synthesized};
+use crate::Reply;
+use crate::replies;
+use theory::Automaton;
+
+// The product; its cells are in the lent buffer.
+#[no_mangle]
+pub extern "C" fn harness_product(
+    states_a: usize,
+    initial_a: usize,
+    inputs_a: u32,
+    outputs_a: u32,
+    cells_a: &[u16],
+    states_b: usize,
+    initial_b: usize,
+    inputs_b: u32,
+    outputs_b: u32,
+    cells_b: &[u16],
+    cells: &mut [u16],
+) -> Reply
+    ensures { λ r. ⌜ r ≡ multiplied (productReply (tableOf «states_a» «initial_a» «inputs_a» «outputs_a» (now («cells_a» .entry))) (tableOf «states_b» «initial_b» «inputs_b» «outputs_b» (now («cells_b» .entry))) (length (now (cells .entry)))) ⌝ }
+    ensures { λ r. ⌜ now (cells .exit) ≡ productCells (tableOf «states_a» «initial_a» «inputs_a» «outputs_a» (now («cells_a» .entry))) (tableOf «states_b» «initial_b» «inputs_b» «outputs_b» (now («cells_b» .entry))) (now (cells .entry)) ⌝ }
+{
+    let a = Automaton {
+        states: states_a,
+        initial: initial_a,
+        inputs: inputs_a,
+        outputs: outputs_a,
+    };
+    let b = Automaton {
+        states: states_b,
+        initial: initial_b,
+        inputs: inputs_b,
+        outputs: outputs_b,
+    };
+    replies::multiplied(composition::product(a, cells_a, b, cells_b, cells))
+}
+
+// Whether the tables fit; the flags are in the lent buffer.
+#[no_mangle]
+pub extern "C" fn harness_fit(
+    states_a: usize,
+    initial_a: usize,
+    inputs_a: u32,
+    outputs_a: u32,
+    cells_a: &[u16],
+    states_b: usize,
+    initial_b: usize,
+    inputs_b: u32,
+    outputs_b: u32,
+    cells_b: &[u16],
+    flags: &mut [u8],
+) -> Reply
+    ensures { λ r. ⌜ r ≡ fitted (compatibilityReply (tableOf «states_a» «initial_a» «inputs_a» «outputs_a» (now («cells_a» .entry))) (tableOf «states_b» «initial_b» «inputs_b» «outputs_b» (now («cells_b» .entry))) (length (now (flags .entry)))) ⌝ }
+    ensures { λ r. ⌜ now (flags .exit) ≡ compatibilityFlags (tableOf «states_a» «initial_a» «inputs_a» «outputs_a» (now («cells_a» .entry))) (tableOf «states_b» «initial_b» «inputs_b» «outputs_b» (now («cells_b» .entry))) (now (flags .entry)) ⌝ }
+{
+    let a = Automaton {
+        states: states_a,
+        initial: initial_a,
+        inputs: inputs_a,
+        outputs: outputs_a,
+    };
+    let b = Automaton {
+        states: states_b,
+        initial: initial_b,
+        inputs: inputs_b,
+        outputs: outputs_b,
+    };
+    replies::fitted(composition::compatible(a, cells_a, b, cells_b, flags))
+}
+
+// The two composed; cells and flags are in the lent buffers.
+#[no_mangle]
+pub extern "C" fn harness_compose(
+    states_a: usize,
+    initial_a: usize,
+    inputs_a: u32,
+    outputs_a: u32,
+    cells_a: &[u16],
+    states_b: usize,
+    initial_b: usize,
+    inputs_b: u32,
+    outputs_b: u32,
+    cells_b: &[u16],
+    cells: &mut [u16],
+    flags: &mut [u8],
+) -> Reply
+    ensures { λ r. ⌜ r ≡ composed (compositionReply (tableOf «states_a» «initial_a» «inputs_a» «outputs_a» (now («cells_a» .entry))) (tableOf «states_b» «initial_b» «inputs_b» «outputs_b» (now («cells_b» .entry))) (length (now (cells .entry))) (length (now (flags .entry)))) ⌝ }
+    ensures { λ r. ⌜ now (cells .exit) ≡ compositionCells (tableOf «states_a» «initial_a» «inputs_a» «outputs_a» (now («cells_a» .entry))) (tableOf «states_b» «initial_b» «inputs_b» «outputs_b» (now («cells_b» .entry))) (now (cells .entry)) (length (now (flags .entry))) ⌝ }
+    ensures { λ r. ⌜ now (flags .exit) ≡ compositionFlags (tableOf «states_a» «initial_a» «inputs_a» «outputs_a» (now («cells_a» .entry))) (tableOf «states_b» «initial_b» «inputs_b» «outputs_b» (now («cells_b» .entry))) (length (now (cells .entry))) (now (flags .entry)) ⌝ }
+{
+    let a = Automaton {
+        states: states_a,
+        initial: initial_a,
+        inputs: inputs_a,
+        outputs: outputs_a,
+    };
+    let b = Automaton {
+        states: states_b,
+        initial: initial_b,
+        inputs: inputs_b,
+        outputs: outputs_b,
+    };
+    replies::composed(composition::compose(a, cells_a, b, cells_b, cells, flags))
+}
+
+// Whether the first table refines the second; the marks are in the lent buffer.
+#[no_mangle]
+pub extern "C" fn harness_refine(
+    states_a: usize,
+    initial_a: usize,
+    inputs_a: u32,
+    outputs_a: u32,
+    cells_a: &[u16],
+    states_b: usize,
+    initial_b: usize,
+    inputs_b: u32,
+    outputs_b: u32,
+    cells_b: &[u16],
+    marks: &mut [u8],
+) -> Reply
+    ensures { λ r. ⌜ r ≡ refined (refinementReply (tableOf «states_a» «initial_a» «inputs_a» «outputs_a» (now («cells_a» .entry))) (tableOf «states_b» «initial_b» «inputs_b» «outputs_b» (now («cells_b» .entry))) (length (now (marks .entry)))) ⌝ }
+    ensures { λ r. ⌜ now (marks .exit) ≡ refinementMarks (tableOf «states_a» «initial_a» «inputs_a» «outputs_a» (now («cells_a» .entry))) (tableOf «states_b» «initial_b» «inputs_b» «outputs_b» (now («cells_b» .entry))) (now (marks .entry)) ⌝ }
+{
+    let a = Automaton {
+        states: states_a,
+        initial: initial_a,
+        inputs: inputs_a,
+        outputs: outputs_a,
+    };
+    let b = Automaton {
+        states: states_b,
+        initial: initial_b,
+        inputs: inputs_b,
+        outputs: outputs_b,
+    };
+    replies::refined(refinement::refine(a, cells_a, b, cells_b, marks))
+}
+
+// The sequencer of a module and a plan; cells and flags are in the lent buffers.
+#[no_mangle]
+pub extern "C" fn harness_synthesize(
+    states_a: usize,
+    initial_a: usize,
+    inputs_a: u32,
+    outputs_a: u32,
+    cells_a: &[u16],
+    states_b: usize,
+    initial_b: usize,
+    inputs_b: u32,
+    outputs_b: u32,
+    cells_b: &[u16],
+    cells: &mut [u16],
+    flags: &mut [u8],
+) -> Reply
+    ensures { λ r. ⌜ r ≡ synthesized (synthesisReply (tableOf «states_a» «initial_a» «inputs_a» «outputs_a» (now («cells_a» .entry))) (tableOf «states_b» «initial_b» «inputs_b» «outputs_b» (now («cells_b» .entry))) (length (now (cells .entry))) (length (now (flags .entry)))) ⌝ }
+    ensures { λ r. ⌜ now (cells .exit) ≡ synthesisCells (tableOf «states_a» «initial_a» «inputs_a» «outputs_a» (now («cells_a» .entry))) (tableOf «states_b» «initial_b» «inputs_b» «outputs_b» (now («cells_b» .entry))) (now (cells .entry)) (length (now (flags .entry))) ⌝ }
+    ensures { λ r. ⌜ now (flags .exit) ≡ synthesisFlags (tableOf «states_a» «initial_a» «inputs_a» «outputs_a» (now («cells_a» .entry))) (tableOf «states_b» «initial_b» «inputs_b» «outputs_b» (now («cells_b» .entry))) (length (now (cells .entry))) (now (flags .entry)) ⌝ }
+{
+    let a = Automaton {
+        states: states_a,
+        initial: initial_a,
+        inputs: inputs_a,
+        outputs: outputs_a,
+    };
+    let b = Automaton {
+        states: states_b,
+        initial: initial_b,
+        inputs: inputs_b,
+        outputs: outputs_b,
+    };
+    replies::synthesized(synthesis::synthesize(a, cells_a, b, cells_b, cells, flags))
+}
