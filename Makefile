@@ -1,5 +1,6 @@
-# make test is the whole gate; make run prints document 01's run.
-.PHONY: test run
+# make test is the whole gate; make run prints document 01's run; make soak compares with the independent implementation for longer; make bench
+# measures beside plain Rust and plain C.
+.PHONY: test run soak bench
 
 test:
 	@bash tests/gate.sh
@@ -8,3 +9,14 @@ test:
 run:
 	@log=$$(rt check sequencer 2>&1) || { echo "$$log"; exit 1; }
 	@cd examples/ref && ../../target/bin/sequencer
+
+soak: built
+	@bash tests/reference.sh soak
+
+bench: built
+	@bash bench/run.sh
+
+# What soak and bench link and run.
+.PHONY: built
+built:
+	@log=$$(rt check sequencer harness moqresam 2>&1) || { echo "$$log"; exit 1; }

@@ -61,7 +61,6 @@ counted() {
 stage "layout" rt fmt --check
 stage "claims" python3 tests/claims.py
 stage "readings" python3 tests/readings.py
-stage "writings" python3 tests/writings.py
 # More jobs than processors: rt starts a batch only when the last one has ended, and crates differ in length.
 counted "proofs" env RT_JOBS="${RT_JOBS:-6}" rt ci
 stage "edits" python3 tests/edits.py
@@ -69,5 +68,6 @@ counted "cases" python3 tests/cases.py
 counted "cases under valgrind" python3 tests/cases.py valgrind -q --error-exitcode=9
 counted "examples" python3 tests/examples.py target/bin/sequencer
 counted "boundary" bash tests/boundary.sh
+counted "reference" bash tests/reference.sh
 
 finished=yes

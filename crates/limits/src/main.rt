@@ -9,6 +9,7 @@ use composition::Built;
 use composition::Compatibility;
 use composition::Composition;
 use libc::STDOUT_FILENO;
+use reader::Alone;
 use refinement::Refined;
 use theory::Automaton;
 use theory::Checked;
@@ -229,6 +230,17 @@ fn follow(call: &[u8], signal: usize) {
     }
 }
 
+// Reads the first bytes of a text that declares 33 signals.
+fn read(call: &[u8], bytes: usize) {
+    let text =
+        b"table\tt\t1\t0\nin\ta\nin\tb\nin\tc\nin\td\nin\te\nin\tf\nin\tg\nin\th\nin\ti\nin\tj\nin\tk\nin\tl\nin\tm\nin\tn\nin\to\nin\tp\nin\tq\nin\tr\nin\ts\nin\tt\nin\tu\nin\tv\nin\tw\nin\tx\nin\ty\nin\tz\nin\tA\nin\tB\nin\tC\nin\tD\nin\tE\nin\tF\nin\tG\n";
+    let mut cells = [7u16; 32];
+    match reader::read_alone(scan::before(text, bytes), &mut cells) {
+        Alone::Table(_) => report(call, 0),
+        Alone::Refused(r) => report(call, r.number),
+    }
+}
+
 fn main() {
     judge(b"judge 4096 states", 4096, 131072);
     judge(b"judge 4097 states", 4097, 131104);
@@ -254,4 +266,6 @@ fn main() {
     follow(b"follow signal 30, not declared", 30);
     follow(b"follow signal 32", 32);
     follow(b"follow signal 2^64 - 1", 18446744073709551615);
+    read(b"read 32 names", 172);
+    read(b"read 33 names", 177);
 }

@@ -2,13 +2,15 @@
 ghost use mathlib.Core.Path.{_≡_};
 ghost use Rattle.text.specs.Lookup.{lookup, lookupNumber, lookupAlone, lookupNumberAlone};
 
+mod places;
+
 // The name that the signal has in two texts read together: the part of the module's or the plan's text where it was first declared; an
 // empty part where the lookup is refused.
 pub fn name<'a>(m: &'a [u8], p: &'a [u8], signal: usize) -> &'a [u8]
     ensures { λ r. ⌜ now r ≡ lookup (now (m .entry)) (now (p .entry)) signal .name ⌝ }
 {
-    let found = reader::find(m, p, signal);
-    let text = reader::text_of(m, p, found.text);
+    let found = places::find(m, p, signal);
+    let text = signals::text_of(m, p, found.text);
     scan::before(scan::after(text, found.from), found.length)
 }
 
@@ -16,14 +18,14 @@ pub fn name<'a>(m: &'a [u8], p: &'a [u8], signal: usize) -> &'a [u8]
 pub fn number<'a>(m: &'a [u8], p: &'a [u8], signal: usize) -> u32
     ensures { λ r. ⌜ r ≡ lookupNumber (now (m .entry)) (now (p .entry)) signal ⌝ }
 {
-    reader::find(m, p, signal).number
+    places::find(m, p, signal).number
 }
 
 // The name that the signal has in a text read alone.
 pub fn name_alone(m: &[u8], signal: usize) -> &[u8]
     ensures { λ r. ⌜ now r ≡ lookupAlone (now (m .entry)) signal .name ⌝ }
 {
-    let found = reader::find_alone(m, signal);
+    let found = places::find_alone(m, signal);
     scan::before(scan::after(m, found.from), found.length)
 }
 
@@ -31,5 +33,5 @@ pub fn name_alone(m: &[u8], signal: usize) -> &[u8]
 pub fn number_alone(m: &[u8], signal: usize) -> u32
     ensures { λ r. ⌜ r ≡ lookupNumberAlone (now (m .entry)) signal ⌝ }
 {
-    reader::find_alone(m, signal).number
+    places::find_alone(m, signal).number
 }

@@ -1,8 +1,1 @@
-pub mod Blanks
-pub mod Names
-pub mod Changes
-pub mod Lines
-pub mod Entering
-pub mod Told
-pub mod Joined
-pub mod Lookups
+pub mod Replies

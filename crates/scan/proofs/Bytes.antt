@@ -3,7 +3,7 @@
 use mathlib.Core.Path.{_≡_, refl, sym, ap, _∙_}
 use mathlib.Core.Bool.{Bool, true, false, _&&_}
 use mathlib.Core.List.{List, [], _∷_}
-use Prim.Native.Nat.{ℕ, suc, _+_, _-_, _≤_, _<_}
+use Prim.Native.Nat.{ℕ, zero, suc, _+_, _-_, _≤_, _<_}
 use native.Mathlib.Numerals.{add-one}
 use native.Mathlib.Omega.{arith}
 use lib.Dec.{eqb}
@@ -64,6 +64,24 @@ module _ (s t : List ℕ) (n i : ℕ) (l : n ≡ length s) (m : length s ≡ len
   pub same-all : n ≤ i → true ≡ same s t
   unfolding same
   same-all h = rw (drop-of-length-le s {i = i} (omega arith), drop-of-length-le t {i = i} (omega arith)) at e
+
+-- Bytes that differ somewhere are not the same.
+pub same-differ-at : (s t : List ℕ) (i : ℕ) → i < length s → i < length t → (getD s i 0 ≡ getD t i 0 → ⊥) → false ≡ same s t
+unfolding same
+same-differ-at (x ∷ s) (y ∷ t) zero h k d = rw (ne-eqb x y d)
+same-differ-at (x ∷ s) (y ∷ t) (suc i) h k d = go (eqb x y) (same-differ-at s t i (omega arith) (omega arith) d)
+  where
+    go : (b : Bool) → false ≡ same s t → false ≡ (b && same s t)
+    go true e = e
+    go false e = refl
+same-differ-at [] t i h k d = absurd (omega arith)
+same-differ-at (x ∷ s) [] i h k d = absurd (omega arith)
+
+pub same-none : (s t : List ℕ) → length s ≡ 0 → length s ≡ length t → true ≡ same s t
+unfolding same
+same-none [] [] h e = refl
+same-none [] (y ∷ t) h e = absurd (omega arith)
+same-none (x ∷ s) t h e = absurd (omega arith)
 
 -- ---- parts
 

@@ -17,8 +17,8 @@ pub fn find(s: &[u8], b: u8) -> usize
     s.len()
 }
 
-// Whether a and b are the same bytes.
-pub fn equal(a: &[u8], b: &[u8]) -> bool
+// Whether a and b are the same bytes, from the first on.
+fn alike(a: &[u8], b: &[u8]) -> bool
     ensures { λ r. ⌜ r ≡ same (now (a .entry)) (now (b .entry)) ⌝ }
 {
     if a.len() != b.len() {
@@ -30,6 +30,23 @@ pub fn equal(a: &[u8], b: &[u8]) -> bool
         }
     }
     true
+}
+
+// The same, but the last byte is compared first: names in one text are often alike up to there.
+pub fn equal(a: &[u8], b: &[u8]) -> bool
+    ensures { λ r. ⌜ r ≡ same (now (a .entry)) (now (b .entry)) ⌝ }
+{
+    let n = a.len();
+    if n != b.len() {
+        return false;
+    }
+    if n == 0 {
+        return true;
+    }
+    if a[n - 1] != b[n - 1] {
+        return false;
+    }
+    alike(a, b)
 }
 
 // A letter, a digit or an underscore of ASCII.

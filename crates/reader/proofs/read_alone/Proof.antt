@@ -1,13 +1,10 @@
-use Rattle.reader.proofs.Joined.{alone-refused, alone-blank, alone-table, alone-cells}
+use Rattle.reader.proofs.Replies.{alone-refused, alone-blank, alone-table, alone-cells}
 use borrow.Author.Needs.{needs}
 use Rattle.reader.proofs.read_alone.Statement.{statement}
 use Rattle.reader.proofs.read_alone.Tie as tie
 
-none-requires : tie.Need-none-requires
-none-requires c κs = search needs
-
-read-requires : tie.Need-read-requires
-read-requires c κs = search needs
+read-one-requires : tie.Need-read-one-requires
+read-one-requires c κs = search needs
 
 clear-requires : tie.Need-clear-requires
 clear-requires c κs = search needs
@@ -28,8 +25,7 @@ pub read-alone-spec : {M : Type 1} → statement M
 read-alone-spec =
     tie.close
     (tie.spec
-    none-requires
-    read-requires
+    read-one-requires
     clear-requires
     same-length
     returns

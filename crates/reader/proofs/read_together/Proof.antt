@@ -1,4 +1,4 @@
-use Rattle.reader.proofs.Joined.{together-refused, first-blank, second-blank, together-tables, first-cells, second-cells}
+use Rattle.reader.proofs.Replies.{together-refused, first-blank, second-blank, together-tables, first-cells, second-cells}
 use borrow.Author.Needs.{needs}
 use Rattle.reader.proofs.read_together.Statement.{statement}
 use Rattle.reader.proofs.read_together.Tie as tie

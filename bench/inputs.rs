@@ -1,0 +1,181 @@
+//! Inputs of the benchmarks: tables and texts, the same in every run.
+
+use crate::plain::{NO_STEP, Table};
+
+/// A table with cells of its own.
+#[derive(Clone)]
+pub struct Owned {
+    pub states: usize,
+    pub inputs: u32,
+    pub outputs: u32,
+    pub cells: Vec<u16>,
+}
+
+impl Owned {
+    pub fn new(states: usize, inputs: u32, outputs: u32) -> Owned {
+        Owned { states, inputs, outputs, cells: vec![NO_STEP; states * 32] }
+    }
+
+    pub fn table(&self) -> Table<'_> {
+        Table { states: self.states, initial: 0, inputs: self.inputs, outputs: self.outputs, cells: &self.cells }
+    }
+
+    pub fn mirror(mut self) -> Owned {
+        std::mem::swap(&mut self.inputs, &mut self.outputs);
+        self
+    }
+
+    fn step(&mut self, from: usize, signal: usize, to: usize) {
+        self.cells[from * 32 + signal] = to as u16;
+    }
+}
+
+/// Splitmix64.
+pub struct Random(pub u64);
+
+impl Random {
+    pub fn next(&mut self) -> u64 {
+        self.0 = self.0.wrapping_add(0x9e37_79b9_7f4a_7c15);
+        let mut z = self.0;
+        z = (z ^ z >> 30).wrapping_mul(0xbf58_476d_1ce4_e5b9);
+        z = (z ^ z >> 27).wrapping_mul(0x94d0_49bb_1331_11eb);
+        z ^ z >> 31
+    }
+
+    pub fn below(&mut self, n: usize) -> usize {
+        (self.next() % n as u64) as usize
+    }
+}
+
+/// Two tables whose pairs form one chain with an illegal pair at its end, so that every round drops one pair. The second counts by signal 0,
+/// and by signal 1, which it sends at its last state, it starts again and the first moves on; the first does not take that at its own last.
+pub fn chain(na: usize, nb: usize) -> (Owned, Owned) {
+    let mut a = Owned::new(na, 0b10, 0);
+    let mut b = Owned::new(nb, 0, 0b11);
+    for p in 1..na {
+        a.step(p - 1, 1, p);
+    }
+    for q in 1..nb {
+        b.step(q - 1, 0, q);
+    }
+    b.step(nb - 1, 1, 0);
+    (a, b)
+}
+
+/// The chain for refinement: there all signals belong to both, so the first takes 0 everywhere and stays.
+pub fn chain_refined(na: usize, nb: usize) -> (Owned, Owned) {
+    let (mut a, b) = chain(na, nb);
+    a.inputs = 0b11;
+    for p in 0..na {
+        a.step(p, 0, p);
+    }
+    (a, b.mirror())
+}
+
+/// A random table: a step for one output in two, and for every input but about `missing` in the whole table.
+fn random(r: &mut Random, states: usize, inputs: u32, outputs: u32, missing: usize) -> Owned {
+    let mut t = Owned::new(states, inputs, outputs);
+    let rare = (states * inputs.count_ones() as usize / missing).max(2);
+    for p in 0..states {
+        for s in 0..32 {
+            let sends = outputs >> s & 1 == 1 && r.below(2) == 0;
+            let takes = inputs >> s & 1 == 1 && r.below(rare) != 0;
+            if sends || takes {
+                let to = r.below(states);
+                t.step(p, s, to);
+            }
+        }
+    }
+    t
+}
+
+/// Random tables over few signals or over all 32, which fit, refinement (the second mirrored) and the sequencer maker (likewise) take. The
+/// second has outputs of its own unless `refined`.
+pub fn random_pair(seed: u64, n: usize, dense: bool, refined: bool) -> (Owned, Owned) {
+    let mut r = Random(seed);
+    let (sent, shared, own) = if dense { (0xffff, 0xff_0000, 0xff00_0000) } else { (0b1, 0b10, 0b100) };
+    let own = if refined { 0 } else { own };
+    let takes = if refined && dense { 0xffff_0000 } else { shared };
+    let a = random(&mut r, n, takes, sent, 4);
+    let b = random(&mut r, n, sent, takes | own, 4);
+    (a, b)
+}
+
+/// The counter of document 000, Table 1, of k variables: 2^(k-1) values, signal 0 counts up and signal 1 down. That it takes neither beyond
+/// its ends is the error. The plan allows every signal at its only state.
+pub fn counter(k: u32) -> (Owned, Owned) {
+    let n = 1 << (k - 1);
+    let mut module = Owned::new(n, 0b11, 0);
+    let mut plan = Owned::new(1, 0, 0b11);
+    for v in 1..n {
+        module.step(v - 1, 0, v);
+        module.step(v, 1, v - 1);
+    }
+    plan.step(0, 0, 0);
+    plan.step(0, 1, 0);
+    (module, plan)
+}
+
+/// The same with the error variable as a state variable, 2^k states: beyond its ends the counter goes to an error state, where it sends signal
+/// 2, which the plan never allows.
+pub fn counter_with_errors(k: u32) -> (Owned, Owned) {
+    let n = 1 << (k - 1);
+    let mut module = Owned::new(2 * n, 0b11, 0b100);
+    let (_, mut plan) = counter(k);
+    plan.outputs = 0b111;
+    for v in 0..n {
+        module.step(v, 0, if v + 1 < n { v + 1 } else { n + v });
+        module.step(v, 1, if v > 0 { v - 1 } else { n });
+        module.step(n + v, 2, n + v);
+    }
+    (module, plan)
+}
+
+/// Names of signals: four short ones, or 32 of the greatest length that differ at their ends only.
+pub fn names(many: bool) -> Vec<String> {
+    if many {
+        (0..32).map(|i| format!("reference_line{i:02}")).collect()
+    } else {
+        ["power", "settled", "read", "open"].map(String::from).to_vec()
+    }
+}
+
+/// A table whose text has at most so many bytes, nearly all of them, and that text. Every state has a step for each signal, or for two.
+pub fn text_table(seed: u64, limit: usize, many: bool) -> (Owned, Vec<u8>) {
+    let names = names(many);
+    let width = if many { 32 } else { 2 };
+    let line = if many { 26 } else { 18 };
+    let states = (limit / line / width).max(2);
+    let all = (1u64 << names.len()) - 1;
+    let mut t = Owned::new(states, all as u32 & 0x5555_5555, all as u32 & 0xaaaa_aaaa);
+    let mut r = Random(seed);
+    let mut text = heading(&t, &names);
+    'states: for p in 0..states {
+        for i in 0..width {
+            let s = if many { i } else { (p % 2) * 2 + i };
+            let to = r.below(states);
+            let step = format!("step\t{p}\t{}\t{to}\n", names[s]);
+            if text.len() + step.len() > limit {
+                break 'states;
+            }
+            text.push_str(&step);
+            t.step(p, s, to);
+        }
+    }
+    (t, text.into_bytes())
+}
+
+/// The text before the steps.
+fn heading(t: &Owned, names: &[String]) -> String {
+    let mut text = format!("table\tstartup\t{}\t0\n", t.states);
+    for (s, name) in names.iter().enumerate() {
+        let kind = if t.inputs >> s & 1 == 1 { "in" } else { "out" };
+        text.push_str(&format!("{kind}\t{name}\n"));
+    }
+    text
+}
+
+/// A table for the follower: 32 signals, one cell in eight without a step.
+pub fn followed(seed: u64, states: usize) -> Owned {
+    random(&mut Random(seed), states, u32::MAX, 0, states * 4)
+}

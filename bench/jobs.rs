@@ -1,0 +1,170 @@
+//! What is measured: calls and their inputs.
+
+use crate::inputs::{self, Owned, Random};
+
+pub const SEED: u64 = 20_261_115;
+
+/// Numbers of states of each table in the families over pairs.
+const SIZES: [usize; 6] = [2, 4, 8, 16, 32, 64];
+
+/// How many random inputs calls take in turn: over a single one the processor learns every branch by heart.
+const VARIANTS: u64 = 16;
+
+const SIGNALS: usize = 1_000_000;
+
+#[derive(Clone, Copy, PartialEq)]
+pub enum Call {
+    Fit,
+    Refine,
+    Synthesize,
+    Read,
+    Write,
+    Follow,
+}
+
+impl Call {
+    pub fn name(self) -> &'static str {
+        match self {
+            Call::Fit => "fit",
+            Call::Refine => "refine",
+            Call::Synthesize => "synthesize",
+            Call::Read => "read",
+            Call::Write => "write",
+            Call::Follow => "follow",
+        }
+    }
+
+    /// What the size of an input counts.
+    pub fn unit(self) -> &'static str {
+        match self {
+            Call::Read | Call::Write => "bytes",
+            Call::Follow => "signals",
+            _ => "pairs",
+        }
+    }
+}
+
+/// One line of the figures: a call and its inputs. Calls take the pairs of tables in turn; texts and signals are in `bytes`.
+pub struct Job {
+    pub call: Call,
+    pub family: String,
+    pub input: String,
+    pub size: usize,
+    pub tables: Vec<(Owned, Owned)>,
+    pub bytes: Vec<u8>,
+    pub names: Vec<String>,
+}
+
+impl Job {
+    pub fn of_pairs(call: Call, family: &str, tables: Vec<(Owned, Owned)>) -> Job {
+        Job {
+            call,
+            family: family.into(),
+            input: family.into(),
+            size: tables[0].0.states * tables[0].1.states,
+            tables,
+            bytes: Vec::new(),
+            names: Vec::new(),
+        }
+    }
+
+    pub fn of_bytes(call: Call, family: &str, table: Owned, bytes: Vec<u8>) -> Job {
+        let mut job = Job::of_pairs(call, family, vec![(table.clone(), table)]);
+        job.size = bytes.len();
+        job.bytes = bytes;
+        job
+    }
+
+    pub fn title(&self) -> String {
+        let (call, unit) = (self.call.name(), self.call.unit());
+        format!("{call}, {}, {} {unit}", self.input, self.size)
+    }
+}
+
+type Pair = (Owned, Owned);
+
+fn mirrored((a, b): Pair) -> Pair {
+    (a, b.mirror())
+}
+
+/// One family, small to large.
+fn family(call: Call, name: &str, make: impl Fn(usize) -> Vec<Pair>) -> Vec<Job> {
+    let job = |&n| Job::of_pairs(call, name, make(n));
+    SIZES.iter().map(job).collect()
+}
+
+/// Chains over two tables of n states, and over one of n times n and one of a single state. The maker takes the second table mirrored.
+fn chains() -> Vec<Job> {
+    let mut jobs = Vec::new();
+    for (long, name) in [(false, "chain n x n"), (true, "chain n x 1")] {
+        let shape = |n: usize| if long { (n * n, 1) } else { (n, n) };
+        let fit = |n| inputs::chain(shape(n).0, shape(n).1);
+        let refine = |n| inputs::chain_refined(shape(n).0, shape(n).1);
+        jobs.extend(family(Call::Fit, name, |n| vec![fit(n)]));
+        jobs.extend(family(Call::Refine, name, |n| vec![refine(n)]));
+        jobs.extend(family(Call::Synthesize, name, |n| vec![mirrored(fit(n))]));
+    }
+    jobs
+}
+
+/// Random tables; refinement and the maker take the second one mirrored.
+fn randoms() -> Vec<Job> {
+    let mut jobs = Vec::new();
+    for (dense, name) in [(false, "random, few signals"), (true, "random, 32 signals")] {
+        let seeds = |n: usize| (0..VARIANTS).map(move |i| SEED + n as u64 * VARIANTS + i);
+        let fit = |n| seeds(n).map(move |s| inputs::random_pair(s, n, dense, false));
+        let refine = |n| seeds(n).map(move |s| inputs::random_pair(s, n, dense, true));
+        jobs.extend(family(Call::Fit, name, |n| fit(n).collect()));
+        jobs.extend(family(Call::Refine, name, |n| refine(n).map(mirrored).collect()));
+        jobs.extend(family(Call::Synthesize, name, |n| fit(n).map(mirrored).collect()));
+    }
+    jobs
+}
+
+/// Document 000's counter, Table 1. With its error variable among the states the largest is beyond the library's limit.
+fn counters() -> Vec<Job> {
+    let plain = (9..14).map(|k| ("counter", k, inputs::counter(k)));
+    let errors = (9..14).map(|k| ("counter with errors", k, inputs::counter_with_errors(k)));
+    let job = |(name, k, pair)| {
+        let mut job = Job::of_pairs(Call::Synthesize, name, vec![pair]);
+        job.input = format!("{name}, k = {k}");
+        job
+    };
+    plain.chain(errors).map(job).collect()
+}
+
+fn texts() -> Vec<Job> {
+    let mut jobs = Vec::new();
+    for call in [Call::Read, Call::Write] {
+        for (many, name) in [(false, "4 short names"), (true, "32 long names")] {
+            for limit in [1024, 4096, 16384, 65536] {
+                let (table, text) = inputs::text_table(SEED + limit as u64, limit, many);
+                let mut job = Job::of_bytes(call, name, table, text);
+                job.names = inputs::names(many);
+                jobs.push(job);
+            }
+        }
+    }
+    jobs
+}
+
+fn follows() -> Vec<Job> {
+    let job = |states| {
+        let mut r = Random(SEED);
+        let signals = (0..SIGNALS).map(|_| r.below(32) as u8).collect();
+        let table = inputs::followed(SEED, states);
+        Job::of_bytes(Call::Follow, &format!("{states} states"), table, signals)
+    };
+    [64, 4096].map(job).into()
+}
+
+/// The jobs whose title has this part.
+pub fn all(part: &str) -> Vec<Job> {
+    let mut jobs = chains();
+    jobs.extend(randoms());
+    jobs.extend(counters());
+    jobs.extend(texts());
+    jobs.extend(follows());
+    jobs.retain(|j| j.title().contains(part));
+    jobs
+}

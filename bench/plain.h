@@ -1,0 +1,49 @@
+/* The library's calls in plain C, as a baseline for the benchmarks: the same checks, the same results. */
+#ifndef PLAIN_H
+#define PLAIN_H
+
+#include <stdbool.h>
+#include <stddef.h>
+#include <stdint.h>
+
+/* An interface automaton: 32 cells for each state. */
+struct table {
+    size_t states;
+    size_t initial;
+    uint32_t inputs;
+    uint32_t outputs;
+    const uint16_t *cells;
+    size_t count;
+};
+
+/* A part of a text, or a name. */
+struct part {
+    const uint8_t *bytes;
+    size_t length;
+};
+
+/* The reply of every call, field for field that of the archive. */
+struct reply {
+    uint32_t number;
+    uint32_t place;
+    size_t line;
+    bool yes;
+    size_t value;
+    size_t states;
+    size_t initial;
+    uint32_t inputs;
+    uint32_t outputs;
+    size_t states_2;
+    size_t initial_2;
+    uint32_t inputs_2;
+    uint32_t outputs_2;
+};
+
+struct reply plain_fit(const struct table *a, const struct table *b, uint8_t *flags, size_t length);
+struct reply plain_refine(const struct table *a, const struct table *b, uint8_t *marks, size_t length);
+struct reply plain_synthesize(const struct table *a, const struct table *b, uint16_t *cells, size_t count, uint8_t *flags, size_t length);
+struct reply plain_follow(const struct table *t, size_t state, size_t signal);
+struct reply plain_read_together(struct part m, struct part p, uint16_t *cm, size_t nm, uint16_t *cp, size_t np);
+struct reply plain_write(const struct table *t, struct part name, const struct part *names, size_t count, uint8_t *out, size_t length);
+
+#endif

@@ -1,0 +1,120 @@
+//! Prints the figures, the growth and the goals, as Markdown.
+
+use crate::jobs::Job;
+
+/// A job with the microseconds of one call to each library; the number says why the call is refused, or is 0.
+pub struct Row {
+    pub job: Job,
+    pub number: u32,
+    pub archive: f64,
+    pub rust: f64,
+    pub c: f64,
+}
+
+/// Largest ratio to the faster baseline, and largest growth of the time over that of the pairs.
+const RATIO: f64 = 1.1;
+const GROWTH: f64 = 1.25;
+
+impl Row {
+    fn baseline(&self) -> f64 {
+        self.rust.min(self.c)
+    }
+
+    fn ratio(&self) -> f64 {
+        self.archive / self.baseline()
+    }
+
+    fn is_pairs(&self) -> bool {
+        self.number == 0 && self.job.call.unit() == "pairs"
+    }
+}
+
+fn print_figures(rows: &[Row]) {
+    println!("| call | input | size | archive us | Rust us | C us | ratio |");
+    println!("|---|---|--:|--:|--:|--:|--:|");
+    for r in rows {
+        let (job, call) = (&r.job, r.job.call);
+        let refused = if r.number == 0 { String::new() } else { format!(" (refused: {})", r.number) };
+        print!("| {} | {}{refused} | {} {} ", call.name(), job.input, job.size, call.unit());
+        println!("| {:.2} | {:.2} | {:.2} | {:.2} |", r.archive, r.rust, r.c, r.ratio());
+    }
+}
+
+/// Neighbours that differ in size alone.
+fn neighbours(rows: &[Row]) -> impl Iterator<Item = (&Row, &Row)> {
+    let alike = |x: &Job, y: &Job| x.call == y.call && x.family == y.family && x.size < y.size;
+    let pairs = rows.windows(2).map(|w| (&w[0], &w[1]));
+    pairs.filter(move |(x, y)| alike(&x.job, &y.job) && y.number == 0)
+}
+
+fn times(x: &Row, y: &Row) -> f64 {
+    y.job.size as f64 / x.job.size as f64
+}
+
+fn print_growth(rows: &[Row]) {
+    println!("| call | input | from | to | archive | Rust | C |");
+    println!("|---|---|--:|--:|--:|--:|--:|");
+    for (x, y) in neighbours(rows) {
+        let doubled = |from: f64, to: f64| (to / from).powf(1.0 / times(x, y).log2());
+        let by = [doubled(x.archive, y.archive), doubled(x.rust, y.rust), doubled(x.c, y.c)];
+        let job = &y.job;
+        print!("| {} | {} | {} | {} ", job.call.name(), job.family, x.job.size, job.size);
+        println!("| {:.2} | {:.2} | {:.2} |", by[0], by[1], by[2]);
+    }
+}
+
+fn print_goal(goal: &str, all: usize, missed: &[String]) {
+    let verdict = if missed.is_empty() { "met" } else { "missed" };
+    println!("- {goal}: {verdict} ({} of {all})", all - missed.len());
+    for m in missed {
+        println!("  - {m}");
+    }
+}
+
+fn print_ratio_goal(goal: &str, mut rows: Vec<&Row>) {
+    let all = rows.len();
+    rows.retain(|r| r.ratio() > RATIO);
+    rows.sort_by(|x, y| y.ratio().total_cmp(&x.ratio()));
+    let missed: Vec<String> = rows.iter().map(|r| format!("{}: {:.2}", r.job.title(), r.ratio())).collect();
+    print_goal(goal, all, &missed);
+}
+
+/// Beside each miss stands what the faster baseline does on the same inputs: a table that leaves the caches costs all three.
+fn print_growth_goal(goal: &str, mut steps: Vec<(&Row, &Row)>) {
+    let all = steps.len();
+    let grown = |x: &Row, y: &Row| y.archive / x.archive;
+    steps.retain(|(x, y)| grown(x, y) > GROWTH * times(x, y));
+    let line = |(x, y): &(&Row, &Row)| {
+        let baseline = y.baseline() / x.baseline();
+        format!("{} from {}: {:.2} times; faster baseline: {baseline:.2} times", y.job.title(), x.job.size, grown(x, y))
+    };
+    print_goal(goal, all, &steps.iter().map(line).collect::<Vec<_>>());
+}
+
+fn print_small_goal(goal: &str, mut rows: Vec<&Row>) {
+    let all = rows.len();
+    rows.retain(|r| r.archive >= 10.0);
+    let line = |r: &&Row| format!("{}: {:.2} us", r.job.title(), r.archive);
+    print_goal(goal, all, &rows.iter().map(line).collect::<Vec<_>>());
+}
+
+fn print_goals(rows: &[Row]) {
+    let pairs = || rows.iter().filter(|r| r.is_pairs());
+    let others = rows.iter().filter(|r| r.job.call.unit() != "pairs");
+    let steps = neighbours(rows).filter(|(x, _)| x.is_pairs());
+    let large = pairs().filter(|r| r.job.size >= 256).collect();
+    let small = pairs().filter(|r| r.job.size <= 64).collect();
+    print_ratio_goal("(a) from 256 pairs up at most 1.1 times the faster baseline", large);
+    print_growth_goal("(b) linear: time grows at most 1.25 times as much as the pairs", steps.collect());
+    print_small_goal("(c) up to 64 pairs under 10 us", small);
+    print_ratio_goal("(d) texts and the follower at most 1.1 times the faster baseline", others.collect());
+}
+
+pub fn print(rows: &[Row]) {
+    println!("## Figures\n");
+    print_figures(rows);
+    println!("\n## Growth of the time where the size doubles\n");
+    print_growth(rows);
+    println!("\n## Goals\n");
+    print_goals(rows);
+}

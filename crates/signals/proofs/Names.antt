@@ -1,0 +1,26 @@
+-- A signal in an automaton, and its name in two texts.
+use mathlib.Core.Path.{_≡_, _∙_}
+use mathlib.Core.Bool.{Bool}
+use mathlib.Core.List.{List}
+use Prim.Native.Nat.{ℕ, _-_}
+use lib.ListN.{take, drop}
+use lib.Bits.{bitOr}
+use borrow.Author.Tests.{eq-eqb, ne-eqb}
+use Rattle.theory.specs.declared.Automaton.{Automaton}
+use Rattle.theory.specs.Table.{member}
+use Rattle.theory.proofs.Sets.{member-or}
+use Rattle.signals.specs.declared.Name.{Name}
+use Rattle.signals.specs.Names.{isDeclared, textOf, nameAt}
+
+pub declared-either : (h : Automaton) (a d : ℕ) (r : Bool) → d ≡ bitOr (h .inputs) (h .outputs) → r ≡ member d a → r ≡ isDeclared h a
+declared-either h a d r e f = f ∙ rw e (member-or (h .inputs) (h .outputs) a)
+
+module _ (m p : List ℕ) where
+  pub second-text : (text : ℕ) → text ≡ 2 → p ≡ textOf m p text
+  second-text text e = rw (eq-eqb text 2 e)
+
+  pub first-text : (text : ℕ) → (text ≡ 2 → ⊥) → m ≡ textOf m p text
+  first-text text e = rw (ne-eqb text 2 e)
+
+  pub name-bytes : (n : Name) (t b : List ℕ) → t ≡ textOf m p (n .text) → b ≡ take (n .to - n .from) (drop (n .from) t) → b ≡ nameAt m p n
+  name-bytes n t b e f = f ∙ rw e

@@ -1,0 +1,21 @@
+-- A signal in an automaton, and its name in two texts, m and p.
+use mathlib.Core.Bool.{Bool, cond}
+use mathlib.Core.List.{List, []}
+use Prim.Native.Nat.{ℕ, _-_}
+use lib.Dec.{eqb}
+use lib.ListN.{take, drop}
+use Rattle.theory.specs.declared.Automaton.{Automaton}
+use Rattle.theory.specs.Table.{table}
+use Rattle.theory.specs.Checks.{declared}
+use Rattle.signals.specs.declared.Name.{Name}
+
+abbrev pub isDeclared : Automaton → ℕ → Bool
+isDeclared h a = declared (table h []) a
+
+-- The text of a number.
+abbrev pub textOf : List ℕ → List ℕ → ℕ → List ℕ
+textOf m p text = cond (eqb text 2) p m
+
+-- The bytes of a name.
+abbrev pub nameAt : List ℕ → List ℕ → Name → List ℕ
+nameAt m p n = take (n .to - n .from) (drop (n .from) (textOf m p (n .text)))

@@ -1,0 +1,32 @@
+// Signals of two texts: whether an automaton has one, and its name as a part of one of the texts.
+ghost use mathlib.Core.Path.{_≡_};
+ghost use Rattle.signals.specs.Names.{isDeclared, textOf, nameAt};
+use theory::Automaton;
+
+// A name as a part of one of two texts: 2 is the second, any other number the first.
+pub struct Name {
+    pub text: u32,
+    pub from: usize,
+    pub to: usize,
+}
+
+// Whether the automaton has the signal.
+pub fn is_declared(header: Automaton, signal: usize) -> bool
+    ensures { λ r. ⌜ r ≡ isDeclared header signal ⌝ }
+{
+    sets::contains(automaton::declared(header), signal)
+}
+
+// The text of a number.
+pub fn text_of<'a>(m: &'a [u8], p: &'a [u8], text: u32) -> &'a [u8]
+    ensures { λ r. ⌜ now r ≡ textOf (now (m .entry)) (now (p .entry)) text ⌝ }
+{
+    if text == 2 { p } else { m }
+}
+
+// The bytes of a name.
+pub fn bytes_of<'a>(m: &'a [u8], p: &'a [u8], name: Name) -> &'a [u8]
+    ensures { λ r. ⌜ now r ≡ nameAt (now (m .entry)) (now (p .entry)) name ⌝ }
+{
+    scan::part(text_of(m, p, name.text), name.from, name.to)
+}

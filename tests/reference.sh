@@ -1,0 +1,72 @@
+#!/usr/bin/env bash
+# The library and the program against an independent implementation of document 01, tests/reference: builds the two archives, compiles the
+# reference with them, and compares on random and on all small tables, texts and sequencers. The last line is 'N passed, M failed'.
+# It is run after `rt ci`, which leaves the program in target/bin. With the argument `soak` it takes twenty times as many cases, and its seed
+# from the date; the seed is printed, and the number of a failed case beside it repeats the case (tests/reference/main.rs says how).
+set -u
+unset CDPATH
+cd -- "$(dirname -- "$0")/.." || { echo "0 passed, 1 failed"; exit 1; }
+
+passed=0
+failed=0
+work=$(mktemp -d) || { echo "0 passed, 1 failed"; exit 1; }
+finish() {
+    rm -rf "$work"
+    echo "$passed passed, $failed failed"
+    [ "$failed" -eq 0 ] && [ "$passed" -gt 0 ]
+    exit $?
+}
+trap finish EXIT
+trap 'failed=$((failed + 1)); exit 1' HUP INT TERM
+
+case "${1-}" in
+    "") seed=1 times=1 limit=120 ;;
+    soak) seed=$(date +%s) times=20 limit=7200 ;;
+    *) echo "usage: tests/reference.sh [soak]"; failed=1; exit 1 ;;
+esac
+
+# try WHAT COMMAND..: passes if the command does; what it says is shown if not.
+try() {
+    local what=$1
+    shift
+    if "$@" >"$work/log" 2>&1; then
+        passed=$((passed + 1))
+        echo "reference: $what: passed"
+    else
+        failed=$((failed + 1))
+        cat "$work/log"
+        echo "reference: $what: FAILED"
+    fi
+}
+
+compile() {
+    rustc --edition 2021 -O -D warnings tests/reference/main.rs -L native=target/staticlib -l static=moqresam -l static=harness -o "$work/reference"
+}
+
+# run WHAT ARGUMENT..: shows what the comparison says, and adds its own count. One that ends without a count, late, or with a status that does
+# not agree with its count is a failure.
+run() {
+    local what=$1 status line
+    timeout "$limit" "$work/reference" "$@" >"$work/said" 2>&1
+    status=$?
+    line=$(tail -n 1 "$work/said")
+    sed '$d' "$work/said"
+    if [[ $line =~ ^([0-9]+)\ passed,\ ([0-9]+)\ failed$ ]] && { [ "$status" -eq 0 ] || [ "${BASH_REMATCH[2]}" -gt 0 ]; }; then
+        passed=$((passed + BASH_REMATCH[1]))
+        failed=$((failed + BASH_REMATCH[2]))
+        echo "reference: $what: $line"
+    else
+        failed=$((failed + 1))
+        echo "reference: $what: FAILED, status $status, last line: $line"
+    fi
+}
+
+echo "reference: seed $seed"
+try "archive for C" rt staticlib moqresam
+try "archive of all calls" rt staticlib harness
+try "comparison compiles" compile
+run selftest tests/cases
+run tables "$seed" "$((100000 * times))"
+run texts "$seed" "$((25000 * times))"
+run demand3 "$seed" "$((5000 * times))"
+run program "$seed" "$((300 * times))" "$work/run" target/bin/sequencer

@@ -1,0 +1,152 @@
+//! The calls on tables: their checks in the order of the numbers, then the result in the lent buffers.
+
+use crate::fit::{compose, fit, Fit};
+use crate::product::product;
+use crate::refine::{marks, refines};
+use crate::reply::{Outcome, Reply};
+use crate::synth::{lists_refused, sequencer};
+use crate::table::{has, Table, MOST_PAIRS, NO_STEP, SIGNALS};
+
+pub fn judge(table: &Table) -> Outcome {
+    accept(table, 1)?;
+    Ok(Reply::default())
+}
+
+pub fn mirror(table: &Table) -> Outcome {
+    accept(table, 1)?;
+    Ok(Reply::default().with_table(&table.mirror()))
+}
+
+pub fn make_product(a: &Table, b: &Table, cells: &mut [u16]) -> Outcome {
+    accept_composable(a, b)?;
+    let pairs = accept_pairs(a, b)?;
+    accept_length(cells, pairs * SIGNALS)?;
+    let table = product(a, b);
+    cells.copy_from_slice(&table.cells);
+    Ok(Reply::default().with_table(&table))
+}
+
+pub fn judge_fit(a: &Table, b: &Table, flags: &mut [u8]) -> Outcome {
+    accept_composable(a, b)?;
+    let pairs = accept_pairs(a, b)?;
+    accept_length(flags, pairs)?;
+    let fit = fit(a, b);
+    fill_flags(flags, &fit.kept);
+    Ok(verdict(&fit))
+}
+
+pub fn make_composition(a: &Table, b: &Table, cells: &mut [u16], flags: &mut [u8]) -> Outcome {
+    accept_composable(a, b)?;
+    give_table(a, b, compose, cells, flags)
+}
+
+pub fn judge_refinement(x: &Table, y: &Table, lent: &mut [u8]) -> Outcome {
+    accept_both(x, y)?;
+    let pairs = accept_pairs(x, y)?;
+    accept_length(lent, pairs)?;
+    fill_flags(lent, &marks(x, y));
+    Ok(Reply { yes: refines(x, y), ..Reply::default() })
+}
+
+pub fn synthesize(module: &Table, plan: &Table, cells: &mut [u16], flags: &mut [u8]) -> Outcome {
+    accept_both(module, plan)?;
+    if lists_refused(module, plan) {
+        return Reply::refused(8, 0);
+    }
+    give_table(module, plan, sequencer, cells, flags)
+}
+
+/// The follower makes checks 1 to 4, 11 and 12, then 5 for its own cell. The reply's value is the state afterwards.
+pub fn follow(table: &Table, state: usize, signal: usize) -> Reply {
+    match next_state(table, state, signal) {
+        Ok(Some(next)) => Reply { yes: true, value: next, ..Reply::default() },
+        Ok(None) => Reply { value: state, ..Reply::default() },
+        Err(number) => Reply { number, place: 1, value: state, ..Reply::default() },
+    }
+}
+
+fn next_state(table: &Table, state: usize, signal: usize) -> Result<Option<usize>, u32> {
+    if let Some(number) = table.shape_fault() {
+        return Err(number);
+    }
+    if state >= table.states {
+        return Err(11);
+    }
+    if !has(table.signals(), signal) {
+        return Err(12);
+    }
+    match table.step(state, signal) {
+        Some(next) if next >= table.states => Err(5),
+        step => Ok(step),
+    }
+}
+
+pub fn count_kept(flags: &[u8]) -> usize {
+    flags.iter().filter(|&&flag| flag == 1).count()
+}
+
+/// Cells that hold a step: of cells that no check has seen, those that name a state.
+pub fn count_steps(states: usize, cells: &[u16]) -> usize {
+    cells.iter().filter(|&&cell| holds_step(states, cell)).count()
+}
+
+/// States with no step out: of cells that no check has seen, whole rows with no step.
+pub fn count_ends(states: usize, cells: &[u16]) -> usize {
+    cells.chunks_exact(SIGNALS).filter(|row| count_steps(states, row) == 0).count()
+}
+
+fn holds_step(states: usize, cell: u16) -> bool {
+    cell != NO_STEP && usize::from(cell) < states
+}
+
+fn accept(table: &Table, place: u32) -> Result<(), Reply> {
+    table.fault().map_or(Ok(()), |number| Reply::refused(number, place))
+}
+
+fn accept_both(a: &Table, b: &Table) -> Result<(), Reply> {
+    accept(a, 1)?;
+    accept(b, 2)
+}
+
+fn accept_composable(a: &Table, b: &Table) -> Result<(), Reply> {
+    accept_both(a, b)?;
+    if a.outputs & b.outputs != 0 {
+        return Reply::refused(7, 0);
+    }
+    Ok(())
+}
+
+fn accept_pairs(a: &Table, b: &Table) -> Result<usize, Reply> {
+    if a.states as u128 * b.states as u128 > MOST_PAIRS {
+        return Reply::refused(9, 0);
+    }
+    Ok(a.states * b.states)
+}
+
+fn accept_length<T>(lent: &[T], needed: usize) -> Result<(), Reply> {
+    if lent.len() != needed {
+        return Reply::refused(10, 0);
+    }
+    Ok(())
+}
+
+/// What composing and the sequencer maker have in common: checks 9 and 10, then cells and flags with either verdict.
+fn give_table(a: &Table, b: &Table, make: fn(&Table, &Table) -> (Table, Fit), cells: &mut [u16], flags: &mut [u8]) -> Outcome {
+    let pairs = accept_pairs(a, b)?;
+    accept_length(cells, pairs * SIGNALS)?;
+    accept_length(flags, pairs)?;
+    let (table, fit) = make(a, b);
+    cells.copy_from_slice(&table.cells);
+    fill_flags(flags, &fit.kept);
+    Ok(verdict(&fit).with_table(&table))
+}
+
+fn verdict(fit: &Fit) -> Reply {
+    Reply { yes: fit.fits, value: fit.rounds, ..Reply::default() }
+}
+
+fn fill_flags(flags: &mut [u8], kept: &[bool]) {
+    for (flag, &kept) in flags.iter_mut().zip(kept) {
+        *flag = u8::from(kept);
+    }
+}

@@ -1,0 +1,288 @@
+//! The calls on tables: the archives against the reference, reply for reply and byte for byte.
+
+use crate::bytes::{from_bytes, to_bytes};
+use crate::lent::Lent;
+use crate::random::Random;
+use crate::random_tables::{chain, chain_allowed, damage, meeting_tables, module_and_plan, refining_tables, sizes};
+use crate::reply::Reply;
+use crate::table::{members, Table, NO_STEP, SIGNALS};
+use crate::tally::Tally;
+use crate::{archive, calls};
+
+#[derive(Clone, Copy, Debug, PartialEq)]
+enum Call {
+    Judge,
+    Mirror,
+    Follow,
+    Product,
+    Fit,
+    Compose,
+    Refine,
+    Synthesize,
+    CountKept,
+    CountSteps,
+    CountEnds,
+    CFit,
+    CRefine,
+    CFollow,
+    CFollowRecord,
+}
+use Call::*;
+
+/// The calls, with the ones that have more to go wrong drawn more often.
+const DRAWN: &[Call] = &[
+    Judge, Mirror, Follow, Product, Fit, Fit, Compose, Compose, Refine, Refine, Synthesize, Synthesize, Synthesize,
+    CountKept, CountSteps, CountEnds, CFit, CRefine, CFollow, CFollowRecord,
+];
+
+/// The arguments of a call: all of them are there, whichever the call takes, and all are compared afterwards.
+#[derive(Clone, PartialEq)]
+struct Case {
+    call: Call,
+    a: Table,
+    b: Table,
+    a_bytes: Vec<u8>,
+    b_bytes: Vec<u8>,
+    state: usize,
+    signal: usize,
+    cells: Lent<u16>,
+    flags: Lent<u8>,
+}
+
+/// Runs the cases, or one of them alone, and then asks that everything that can occur did.
+pub fn run(seed: u64, count: u64, only: Option<u64>) -> bool {
+    let mut tally = Tally::default();
+    for number in only.map_or(0..count, |case| case..case + 1) {
+        compare(&mut tally, seed, number, random_case(&mut Random::of_case(seed, number)));
+    }
+    if only.is_none() {
+        compare_chains(&mut tally, seed, count);
+    }
+    if only.is_none() && count >= 20_000 {
+        ask_for_all_outcomes(&mut tally);
+    }
+    tally.finish()
+}
+
+fn compare(tally: &mut Tally, seed: u64, number: u64, case: Case) {
+    let (mut expected, mut actual) = (case.clone(), case.clone());
+    let reply = by_reference(&mut expected);
+    let answer = by_archive(&mut actual);
+    record(tally, &expected, &reply);
+    tally.check(reply == answer && expected == actual, || {
+        let buffers = [expected.cells.difference(&actual.cells), expected.flags.difference(&actual.flags)];
+        format!(
+            "tables, seed {seed}, case {number}: {:?}\n  first: {:?}\n  second: {:?}\n  bytes {} and {}, state {}, signal {}, cells {}, flags {}\
+             \n  expected {reply:?}, state {}\n  is       {answer:?}, state {}\n  cells and flags: {buffers:?}",
+            case.call, case.a, case.b, case.a_bytes.len(), case.b_bytes.len(), case.state, case.signal, case.cells.len(), case.flags.len(),
+            expected.state, actual.state
+        )
+    });
+}
+
+fn by_reference(case: &mut Case) -> Reply {
+    let Case { call, a, b, a_bytes, b_bytes, state, signal, cells, flags } = case;
+    match call {
+        Judge => Reply::of(calls::judge(a)),
+        Mirror => Reply::of(calls::mirror(a)),
+        Follow => calls::follow(a, *state, *signal),
+        Product => Reply::of(calls::make_product(a, b, cells.part())),
+        Fit => Reply::of(calls::judge_fit(a, b, flags.part())),
+        Compose => Reply::of(calls::make_composition(a, b, cells.part(), flags.part())),
+        Refine => Reply::of(calls::judge_refinement(a, b, flags.part())),
+        Synthesize => Reply::of(calls::synthesize(a, b, cells.part(), flags.part())),
+        CountKept => counted(calls::count_kept(flags.part())),
+        CountSteps => counted(calls::count_steps(a.states, &a.cells)),
+        CountEnds => counted(calls::count_ends(a.states, &a.cells)),
+        CFit => Reply::of(calls::judge_fit(&from_bytes(a, a_bytes), &from_bytes(b, b_bytes), flags.part())),
+        CRefine => Reply::of(calls::judge_refinement(&from_bytes(a, a_bytes), &from_bytes(b, b_bytes), flags.part())),
+        CFollow => calls::follow(&from_bytes(a, a_bytes), *state, *signal),
+        CFollowRecord => {
+            let reply = calls::follow(&from_bytes(a, a_bytes), *state, *signal);
+            *state = reply.value;
+            reply
+        }
+    }
+}
+
+fn by_archive(case: &mut Case) -> Reply {
+    let Case { call, a, b, a_bytes, b_bytes, state, signal, cells, flags } = case;
+    match call {
+        Judge => archive::judge(a),
+        Mirror => archive::mirror(a),
+        Follow => archive::follow(a, *state, *signal),
+        Product => archive::make_product(a, b, cells.part()),
+        Fit => archive::judge_fit(a, b, flags.part()),
+        Compose => archive::make_composition(a, b, cells.part(), flags.part()),
+        Refine => archive::judge_refinement(a, b, flags.part()),
+        Synthesize => archive::synthesize(a, b, cells.part(), flags.part()),
+        CountKept => counted(archive::count_kept(flags.part())),
+        CountSteps => counted(archive::count_steps(a.states, &a.cells)),
+        CountEnds => counted(archive::count_ends(a.states, &a.cells)),
+        CFit => archive::c_fit(a, a_bytes, b, b_bytes, flags.part()),
+        CRefine => archive::c_refine(a, a_bytes, b, b_bytes, flags.part()),
+        CFollow => archive::c_follow(a, a_bytes, *state, *signal),
+        CFollowRecord => archive::c_follow_record(a, a_bytes, state, *signal),
+    }
+}
+
+fn counted(value: usize) -> Reply {
+    Reply { value, ..Reply::default() }
+}
+
+fn random_case(r: &mut Random) -> Case {
+    let call = r.pick(DRAWN);
+    let sizes = sizes(r);
+    let (mut a, mut b) = match call {
+        Synthesize => module_and_plan(r, sizes),
+        Refine | CRefine => refining_tables(r, sizes),
+        _ => meeting_tables(r, sizes),
+    };
+    // The buffers are as long as the sound tables need; damage comes after.
+    let pairs = (a.states * b.states).min(4_200);
+    let (mut cells, mut flags) = (pairs * SIGNALS, pairs);
+    let is_count = matches!(call, CountKept | CountSteps | CountEnds);
+    let faults = if is_count { 0 } else { r.pick(&[0, 0, 0, 0, 0, 0, 1, 1, 2, 3]) };
+    for _ in 0..faults {
+        match r.below(5) {
+            0 => cells = wrong_length(r, cells),
+            1 => flags = wrong_length(r, flags),
+            2 if takes_one(call) => damage(r, &mut a),
+            2 => damage(r, &mut b),
+            _ => damage(r, &mut a),
+        }
+    }
+    if is_count {
+        scatter(r, &mut a);
+    }
+    let (state, signal) = (random_state(r, &a), random_signal(r, &a));
+    if faults > 0 && r.percent(30) {
+        damage_own_cell(r, &mut a, state, signal);
+    }
+    let (a_bytes, b_bytes) = (random_bytes(r, &a, faults), random_bytes(r, &b, faults));
+    Case { call, a, b, a_bytes, b_bytes, state, signal, cells: Lent::arbitrary(r, cells), flags: Lent::arbitrary(r, flags) }
+}
+
+fn takes_one(call: Call) -> bool {
+    matches!(call, Judge | Mirror | Follow | CFollow | CFollowRecord)
+}
+
+fn wrong_length(r: &mut Random, length: usize) -> usize {
+    r.pick(&[0, length.saturating_sub(1), length + 1, length / 2, length * 2])
+}
+
+/// Arbitrary cells, at times not as many as the states ask for, which a count takes as they are.
+fn scatter(r: &mut Random, table: &mut Table) {
+    if r.percent(20) {
+        let length = r.pick(&[0, table.cells.len() / 2, table.cells.len() - 1, table.cells.len() + 1, table.cells.len() + 70]);
+        table.cells.resize(length, NO_STEP);
+        table.states = r.pick(&[0, 1, 4_097, 65_536, usize::MAX, table.states]);
+    }
+    for cell in table.cells.iter_mut() {
+        if r.percent(5) {
+            *cell = r.below(65_536) as u16;
+        }
+    }
+}
+
+fn random_state(r: &mut Random, table: &Table) -> usize {
+    if r.percent(10) {
+        return r.pick(&[table.states, table.states.wrapping_add(1), 65_535, 65_536, usize::MAX, 1 << 32]);
+    }
+    r.below(table.states.clamp(1, 5_000))
+}
+
+fn random_signal(r: &mut Random, table: &Table) -> usize {
+    let declared: Vec<usize> = members(table.signals()).collect();
+    match r.below(20) {
+        0 => r.pick(&[32, 33, 63, 64, 256, 1 << 32, (1 << 32) + 1, usize::MAX]),
+        1 => r.below(SIGNALS),
+        _ if declared.is_empty() => 31,
+        _ => r.pick(&declared),
+    }
+}
+
+/// The cell that the follower looks at is bad, if there is such a cell.
+fn damage_own_cell(r: &mut Random, table: &mut Table, state: usize, signal: usize) {
+    if state < table.states && signal < SIGNALS {
+        if let Some(cell) = table.cells.get_mut(state * SIGNALS + signal) {
+            *cell = r.pick(&[table.states.min(65_534) as u16, 65_534]);
+        }
+    }
+}
+
+/// The cells as bytes; of a damaged case, at times not the right number of them.
+fn random_bytes(r: &mut Random, table: &Table, faults: usize) -> Vec<u8> {
+    let mut bytes = to_bytes(&table.cells);
+    if faults > 0 && r.percent(10) {
+        let length = bytes.len();
+        bytes.resize(r.pick(&[0, length / 2, length.saturating_sub(1), length + 1, length + 2, length + 64]), 255);
+    }
+    bytes
+}
+
+/// The longest fixpoints there are: as many rounds as pairs.
+fn compare_chains(tally: &mut Tally, seed: u64, number: u64) {
+    let r = &mut Random::of_case(seed, number);
+    for length in [2, 17, 1_024, 4_096] {
+        for call in [Fit, Compose, CFit, Refine, CRefine] {
+            let (a, taker) = chain(length);
+            let b = if matches!(call, Refine | CRefine) { chain_allowed() } else { taker };
+            let (cells, flags) = (Lent::arbitrary(r, length * SIGNALS), Lent::arbitrary(r, length));
+            let (a_bytes, b_bytes) = (to_bytes(&a.cells), to_bytes(&b.cells));
+            compare(tally, seed, number, Case { call, a, b, a_bytes, b_bytes, state: 0, signal: 0, cells, flags });
+        }
+    }
+}
+
+fn record(tally: &mut Tally, done: &Case, reply: &Reply) {
+    let call = done.call;
+    tally.saw(&outcome(call, reply.number, reply.place, reply.yes));
+    if reply.number == 0 && reply.value > 0 && matches!(call, Fit | Compose | Synthesize | CFit) {
+        tally.saw(&dropping(call, reply.yes));
+    }
+}
+
+fn outcome(call: Call, number: u32, place: u32, yes: bool) -> String {
+    match number {
+        0 if !has_verdict(call) => format!("{call:?}: accepted"),
+        0 => format!("{call:?}: {}", if yes { "yes" } else { "no" }),
+        _ => format!("{call:?}: refused {number:2} of {place}"),
+    }
+}
+
+/// Whether the call says yes or no; of the follower, no is "not now".
+fn has_verdict(call: Call) -> bool {
+    !matches!(call, Judge | Mirror | Product | CountKept | CountSteps | CountEnds)
+}
+
+fn dropping(call: Call, yes: bool) -> String {
+    format!("{call:?}: {}, with pairs dropped", if yes { "yes" } else { "no" })
+}
+
+fn ask_for_all_outcomes(tally: &mut Tally) {
+    for call in DRAWN.iter().copied() {
+        tally.must_have_seen(&outcome(call, 0, 0, false));
+        tally.must_have_seen(&outcome(call, 0, 0, true));
+        if matches!(call, Fit | Compose | Synthesize | CFit) {
+            tally.must_have_seen(&dropping(call, true));
+        }
+        for (number, place) in refusals(call) {
+            tally.must_have_seen(&outcome(call, number, place, false));
+        }
+    }
+}
+
+/// Every refusal of a call, with the table that it names.
+fn refusals(call: Call) -> Vec<(u32, u32)> {
+    let of_one = (1..=6).map(|number| (number, 1));
+    let of_two = of_one.clone().chain((1..=6).map(|number| (number, 2)));
+    match call {
+        Judge | Mirror => of_one.collect(),
+        Follow | CFollow | CFollowRecord => [1, 2, 3, 4, 5, 11, 12].map(|number| (number, 1)).to_vec(),
+        Product | Fit | Compose | CFit => of_two.chain([(7, 0), (9, 0), (10, 0)]).collect(),
+        Refine | CRefine => of_two.chain([(9, 0), (10, 0)]).collect(),
+        Synthesize => of_two.chain([(8, 0), (9, 0), (10, 0)]).collect(),
+        CountKept | CountSteps | CountEnds => Vec::new(),
+    }
+}

@@ -1,0 +1,286 @@
+//! Table text: reading, lookup, writing and the program's report, the archive against the reference.
+
+use crate::lent::Lent;
+use crate::program::{self, Room, PROGRAM};
+use crate::random::Random;
+use crate::random_tables::{damage, module_and_plan, sizes, table_of_text_length};
+use crate::random_texts::{borrowed, good_names, text_pair};
+use crate::reply::Reply;
+use crate::table::{has, members, Table, NO_STEP, SIGNALS};
+use crate::tally::Tally;
+use crate::writer::up_to_order;
+use crate::{archive, text, writer};
+
+/// Room for the text of a sequencer with the six lines before it.
+const REPORT_BYTES: usize = 65_536 + 256;
+const NAME_BYTES: usize = 16;
+
+pub fn run(seed: u64, count: u64, only: Option<u64>) -> bool {
+    let mut tally = Tally::default();
+    for case in only.map_or(0..count, |case| case..case + 1) {
+        let r = &mut Random::of_case(seed, case);
+        let what = format!("texts, seed {seed}, case {case}");
+        match r.below(20) {
+            0..=5 => compare_alone(&mut tally, r, &what),
+            6..=11 => compare_together(&mut tally, r, &what),
+            12 => compare_names(&mut tally, r, &what),
+            13..=16 => compare_writing(&mut tally, r, &what),
+            _ => compare_report(&mut tally, r, &what),
+        }
+    }
+    if only.is_none() && count >= 20_000 {
+        ask_for_all_outcomes(&mut tally);
+    }
+    tally.finish()
+}
+
+fn compare_alone(tally: &mut Tally, r: &mut Random, what: &str) {
+    let (module, plan) = text_pair(r);
+    let text = if r.percent(50) { module } else { plan };
+    let mut expected = lent_cells(r, &text);
+    let mut actual = expected.clone();
+    let reply = Reply::of(text::read_alone(&text, expected.part()));
+    let answer = archive::read_alone(&text, actual.part());
+    tally.saw(&outcome("alone", &reply));
+    tally.check(reply == answer && expected == actual, || {
+        let (lent, cells, text) = (expected.len(), expected.difference(&actual), shown(&text));
+        format!("{what}: read alone, {lent} cells lent\n  {text}\n  expected {reply:?}\n  is       {answer:?}\n  cells {cells:?}")
+    });
+}
+
+fn compare_together(tally: &mut Tally, r: &mut Random, what: &str) {
+    let (module, plan) = text_pair(r);
+    let mut expected = (lent_cells(r, &module), lent_cells(r, &plan));
+    let mut actual = expected.clone();
+    let reply = Reply::of(text::read_together(&module, &plan, expected.0.part(), expected.1.part()));
+    let answer = archive::read_together(&module, &plan, actual.0.part(), actual.1.part());
+    tally.saw(&outcome("together", &reply));
+    tally.check(reply == answer && expected == actual, || {
+        let cells = [expected.0.difference(&actual.0), expected.1.difference(&actual.1)];
+        format!(
+            "{what}: read together, {} and {} cells lent\n  {}\n  {}\n  expected {reply:?}\n  is       {answer:?}\n  cells {cells:?}",
+            expected.0.len(), expected.1.len(), shown(&module), shown(&plan)
+        )
+    });
+}
+
+/// Cells to lend: mostly as many as the text's first line seems to ask for, else fewer or more.
+fn lent_cells(r: &mut Random, text: &[u8]) -> Lent<u16> {
+    let field = text.split(|&byte| byte == b'\t').nth(2).unwrap_or(b"");
+    let states: usize = std::str::from_utf8(field).ok().and_then(|digits| digits.parse().ok()).unwrap_or(0);
+    let asked = states.clamp(1, 4_097) * SIGNALS;
+    let enough = r.pick(&[asked, asked, asked + 1, asked + 77, asked.max(PROGRAM.cells)]);
+    let room = if r.percent(10) { r.pick(&[0, asked / 2, asked - SIGNALS, asked - 1]) } else { enough };
+    Lent::arbitrary(r, room)
+}
+
+/// Looks up every signal number, and some that are far too large.
+fn compare_names(tally: &mut Tally, r: &mut Random, what: &str) {
+    let (module, plan) = text_pair(r);
+    let plan = r.percent(70).then_some(plan);
+    let signals = (0..=SIGNALS).chain([64, 65_536, 1 << 32, usize::MAX]);
+    for signal in signals {
+        let mut expected: Lent<u8> = Lent::arbitrary(r, NAME_BYTES);
+        let mut actual = expected.clone();
+        let reply = look_up(&module, plan.as_deref(), signal, expected.part());
+        let answer = archive::name(&module, plan.as_deref(), signal, actual.part());
+        tally.saw(&outcome("name", &reply));
+        tally.check(reply == answer && expected == actual, || {
+            let plan = plan.as_deref().map(shown);
+            format!("{what}: name of {signal}\n  {}\n  {plan:?}\n  expected {reply:?}\n  is       {answer:?}", shown(&module))
+        });
+        // Where the reading is refused, every lookup says the same.
+        if reply.number != 0 && reply.number != 12 {
+            break;
+        }
+    }
+}
+
+fn look_up(module: &[u8], plan: Option<&[u8]>, signal: usize, out: &mut [u8]) -> Reply {
+    match text::name(module, plan, signal) {
+        Ok(name) => {
+            out[..name.len()].copy_from_slice(&name);
+            Reply { value: name.len(), ..Reply::default() }
+        }
+        Err(number) => Reply { number, ..Reply::default() },
+    }
+}
+
+fn compare_writing(tally: &mut Tally, r: &mut Random, what: &str) {
+    let (table, name, names) = random_writing(r);
+    let names = borrowed(&names);
+    let length = if table.fault().is_none() { writer::text_of(&table, &name, &names).len() } else { 100 };
+    let room = r.pick(&[length, length, length - 1, length + 1, length + 100, length / 2, 0, 65_535, 65_536, 65_537, 70_000]);
+    let mut expected = Lent::arbitrary(r, room);
+    let mut actual = expected.clone();
+    let reply = Reply::of(writer::write(&table, &name, &names, expected.part()));
+    let answer = archive::write(&table, &name, &names, actual.part());
+    tally.saw(&outcome("write", &reply));
+    let text = actual.part()[..answer.value.min(room)].to_vec();
+    let same_text = up_to_order(&text) == up_to_order(&expected.part()[..reply.value]);
+    // The order within a state is open, so the expected order is put in place of the other: all other bytes are compared as they are.
+    if same_text {
+        actual.part()[..reply.value].copy_from_slice(&expected.part()[..reply.value]);
+    }
+    tally.check(reply == answer && same_text && expected == actual, || {
+        let names: Vec<String> = names.iter().map(|name| shown(name)).collect();
+        format!(
+            "{what}: write, {room} bytes lent\n  {table:?}\n  {} {names:?}\n  expected {reply:?}\n  is       {answer:?}\n  bytes {:?}",
+            shown(&name), expected.difference(&actual)
+        )
+    });
+    if answer.number == 0 {
+        tally.check(reads_again(&table, &names, &text), || format!("{what}: written and read again\n  {table:?}\n  {}", shown(&text)));
+    }
+}
+
+fn random_writing(r: &mut Random) -> (Table, Vec<u8>, Vec<Vec<u8>>) {
+    if r.percent(3) {
+        let (table, spare) = table_of_text_length(r.pick(&[65_535, 65_536, 65_537, 66_000]));
+        return (table, vec![b'x'; spare + 1], (b'a'..=b'z').map(|letter| vec![letter]).collect());
+    }
+    let sizes = sizes(r);
+    let (mut table, other) = module_and_plan(r, sizes);
+    if r.percent(50) {
+        table = other;
+    }
+    if r.percent(15) {
+        damage(r, &mut table);
+    }
+    let mut names = good_names(r);
+    let mut name = r.pick(&names);
+    if r.percent(20) {
+        damage_name(r, &mut name);
+    }
+    for _ in 0..r.pick(&[0, 0, 1, 3]) {
+        damage_names(r, &mut names, table.signals());
+    }
+    (table, name, names)
+}
+
+fn damage_name(r: &mut Random, name: &mut Vec<u8>) {
+    const NAMES: &[&str] =
+        &["", "a", "abcdefghijklmnop", "abcdefghijklmnopq", "a-b", "a b", "a\n", "a\t", "\0", "\u{e9}", "@", "[", "`", "{", "/", ":"];
+    *name = r.pick(NAMES).as_bytes().to_vec();
+}
+
+/// One name is bad, or equal to another, or the names end early; mostly it is the name of a declared signal.
+fn damage_names(r: &mut Random, names: &mut Vec<Vec<u8>>, declared: u32) {
+    let mut places: Vec<usize> = members(declared).filter(|&signal| signal < names.len()).collect();
+    if places.is_empty() || r.percent(20) {
+        places = (0..names.len()).collect();
+    }
+    if places.is_empty() {
+        return;
+    }
+    let (one, other) = (r.pick(&places), r.pick(&places));
+    match r.below(8) {
+        0..=1 => damage_name(r, &mut names[one]),
+        2..=6 => names[one] = names[other].clone(),
+        _ => names.truncate(one),
+    }
+}
+
+/// Whether the archive reads the text as the same table: states, first state, lists and steps, name for name.
+fn reads_again(table: &Table, names: &[&[u8]], text: &[u8]) -> bool {
+    let mut cells = vec![0; table.cells.len() + 5];
+    let reply = archive::read_alone(text, &mut cells);
+    let beyond = cells.split_off(table.cells.len());
+    let again = Table { states: reply.states, initial: reply.initial, inputs: reply.inputs, outputs: reply.outputs, cells };
+    let same_numbers = reply.number == 0 && again.states == table.states && again.initial == table.initial;
+    let same_count = again.signals().count_ones() == table.signals().count_ones();
+    let new_names: Vec<Vec<u8>> = members(again.signals()).map(|signal| archive_name(text, signal)).collect();
+    let same_signal = |signal: usize| {
+        let new = members(again.signals()).zip(&new_names).find(|(_, name)| name.as_slice() == names[signal]);
+        new.is_some_and(|(new, _)| {
+            has(table.inputs, signal) == has(again.inputs, new)
+                && has(table.outputs, signal) == has(again.outputs, new)
+                && (0..table.states).all(|state| table.step(state, signal) == again.step(state, new))
+        })
+    };
+    same_numbers && same_count && members(table.signals()).all(same_signal) && beyond.iter().all(|&cell| cell == NO_STEP)
+}
+
+fn archive_name(text: &[u8], signal: usize) -> Vec<u8> {
+    let mut name = vec![0; NAME_BYTES];
+    let reply = archive::name(text, None, signal, &mut name);
+    name.truncate(reply.value);
+    name
+}
+
+fn compare_report(tally: &mut Tally, r: &mut Random, what: &str) {
+    let (module, plan) = text_pair(r);
+    let room = if r.percent(90) { PROGRAM } else { less_room(r) };
+    let expected = program::print(Some(&module), Some(&plan), &room);
+    let mut lent = archive::Buffers {
+        module_cells: vec![NO_STEP; room.module_cells],
+        plan_cells: vec![NO_STEP; room.plan_cells],
+        cells: vec![NO_STEP; room.cells],
+        flags: vec![0; room.flags],
+        out: vec![0; REPORT_BYTES],
+    };
+    let length = archive::report(&module, &plan, &mut lent).min(REPORT_BYTES);
+    let printed = &lent.out[..length];
+    tally.saw(&format!("report: {}", headline(&expected)));
+    tally.check(up_to_order(&expected) == up_to_order(printed), || {
+        format!("{what}: report\n  {}\n  {}\n  expected {}\n  is       {}", shown(&module), shown(&plan), shown(&expected), shown(printed))
+    });
+}
+
+/// Room for small tables, or hardly for them: where it is too little, 10 names the module, the plan or the result.
+fn less_room(r: &mut Random) -> Room {
+    let states = [1, 2, 3, 4, 5, 6].map(|states| states * SIGNALS);
+    let (module_cells, plan_cells) = (r.pick(&states), r.pick(&states));
+    let pairs = r.between(1, 36);
+    Room { module_cells, plan_cells, cells: pairs * SIGNALS - r.below(2), flags: pairs + r.below(3) }
+}
+
+/// What a report says first: a verdict, or a refusal without its line.
+pub fn headline(report: &[u8]) -> String {
+    let first = report.split(|&byte| byte == b'\n').next().unwrap_or(b"");
+    let fields: Vec<String> = first.split(|&byte| byte == b'\t').map(|field| String::from_utf8_lossy(field).into_owned()).collect();
+    match &fields[..] {
+        [_, file, number, _] => format!("refused {number:>2} of {file}"),
+        _ => fields.join(" "),
+    }
+}
+
+/// The bytes of a text, in the notation of a string; a long text is cut.
+pub fn shown(text: &[u8]) -> String {
+    const MOST_SHOWN: usize = 600;
+    let cut = &text[..text.len().min(MOST_SHOWN)];
+    format!("{} bytes \"{}\"", text.len(), cut.escape_ascii())
+}
+
+fn outcome(call: &str, reply: &Reply) -> String {
+    match reply.number {
+        0 => format!("{call}: accepted"),
+        number => format!("{call}: refused {number:2} of {}", reply.place),
+    }
+}
+
+fn ask_for_all_outcomes(tally: &mut Tally) {
+    let of_reading = [1, 2, 10, 13, 14, 15, 16, 17, 18, 19, 20, 21, 22];
+    for number in of_reading {
+        tally.must_have_seen(&format!("alone: refused {number:2} of 1"));
+        for place in [1, 2] {
+            tally.must_have_seen(&format!("together: refused {number:2} of {place}"));
+            tally.must_have_seen(&format!("report: refused {number:2} of {place}"));
+        }
+        if number != 10 {
+            tally.must_have_seen(&format!("name: refused {number:2} of 0"));
+        }
+    }
+    for number in 1..=6 {
+        tally.must_have_seen(&format!("write: refused {number:2} of 1"));
+    }
+    for outcome in ["name: refused 12 of 0", "write: refused 16 of 0", "write: refused 18 of 0", "write: refused 23 of 0"] {
+        tally.must_have_seen(outcome);
+    }
+    for outcome in ["alone: accepted", "together: accepted", "name: accepted", "write: accepted", "report: verdict yes", "report: verdict none"] {
+        tally.must_have_seen(outcome);
+    }
+    for number in [8, 9, 10, 23] {
+        tally.must_have_seen(&format!("report: refused {number:2} of 0"));
+    }
+}

@@ -1,0 +1,76 @@
+//! An independent implementation of document 01, written from its words and by the plainest means, and comparisons of the archives and the
+//! program with it. The rules are in `table` to `synth`, the calls with their refusals in `calls`, `text`, `writer` and `program`; what is tried
+//! comes from `random_tables` and `random_texts`; the archives stand behind `archive`.
+//!
+//!     reference selftest CASES                               the reference alone, on folders of expected output
+//!     reference tables SEED COUNT [CASE]                     the calls on tables
+//!     reference texts SEED COUNT [CASE]                      reading, lookup, writing, report
+//!     reference demand3 SEED COUNT [CASE]                    all small sequencers
+//!     reference program SEED COUNT FOLDER SEQUENCER [CASE]   the program, run in a scratch folder
+//!
+//! With CASE that one case is run alone. The last line is 'N passed, M failed', and the exit status says the same.
+
+mod archive;
+mod bytes;
+mod calls;
+mod compare_tables;
+mod compare_texts;
+mod demand3;
+mod fit;
+mod lent;
+mod product;
+mod program;
+mod random;
+mod random_tables;
+mod random_texts;
+mod refine;
+mod reply;
+mod run_program;
+mod selftest;
+mod synth;
+mod table;
+mod tally;
+mod text;
+mod writer;
+
+use std::path::Path;
+use std::process::ExitCode;
+
+fn main() -> ExitCode {
+    let arguments: Vec<String> = std::env::args().skip(1).collect();
+    let arguments: Vec<&str> = arguments.iter().map(String::as_str).collect();
+    match run(&arguments) {
+        Some(true) => ExitCode::SUCCESS,
+        Some(false) => ExitCode::FAILURE,
+        None => {
+            eprintln!("usage: reference selftest CASES | tables|texts|demand3 SEED COUNT [CASE] | program SEED COUNT FOLDER SEQUENCER [CASE]");
+            ExitCode::from(2)
+        }
+    }
+}
+
+/// Whether all passed; nothing for arguments that make no sense.
+fn run(arguments: &[&str]) -> Option<bool> {
+    if let ["selftest", cases] = arguments {
+        return Some(selftest::run(Path::new(cases)));
+    }
+    let [what, seed, count, rest @ ..] = arguments else { return None };
+    let (seed, count): (u64, u64) = (seed.parse().ok()?, count.parse().ok()?);
+    println!("{what}, seed {seed}");
+    match (*what, rest) {
+        ("tables", case) => Some(compare_tables::run(seed, count, one(case)?)),
+        ("texts", case) => Some(compare_texts::run(seed, count, one(case)?)),
+        ("demand3", case) => Some(demand3::run(seed, count, one(case)?)),
+        ("program", [folder, sequencer, case @ ..]) => Some(run_program::run(seed, count, one(case)?, Path::new(folder), Path::new(sequencer))),
+        _ => None,
+    }
+}
+
+/// The case that is asked for alone, if one is.
+fn one(arguments: &[&str]) -> Option<Option<u64>> {
+    match arguments {
+        [] => Some(None),
+        [case] => Some(Some(case.parse().ok()?)),
+        _ => None,
+    }
+}

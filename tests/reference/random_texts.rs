@@ -1,0 +1,217 @@
+//! Random table texts: spelled from tables in any lawful order of lines, and then damaged.
+
+use crate::random::Random;
+use crate::random_tables::{busy_module_and_plan, module_and_plan, sizes, table_of_text_length};
+use crate::table::{members, Table, SIGNALS};
+use crate::writer::{declaration_line, digits, line, step_line, text_of};
+
+/// Names for the 32 signals of a case, all different, some of them nearly the same.
+pub fn good_names(r: &mut Random) -> Vec<Vec<u8>> {
+    const ODD: &[&str] =
+        &["a", "A", "b", "_", "__", "0", "00", "power", "Power", "poweR", "power_", "settled", "read", "start", "in", "out", "step", "table"];
+    let mut names: Vec<Vec<u8>> = ODD.iter().map(|name| name.as_bytes().to_vec()).collect();
+    names.extend([b"abcdefghijklmnop".to_vec(), b"abcdefghijklmnoq".to_vec(), b"ABCDEFGHIJKLMNO9".to_vec()]);
+    names.extend((0..20).map(|number| format!("s{number}").into_bytes()));
+    r.shuffle(&mut names);
+    names.truncate(SIGNALS);
+    names
+}
+
+pub fn borrowed(names: &[Vec<u8>]) -> Vec<&[u8]> {
+    names.iter().map(Vec::as_slice).collect()
+}
+
+/// A module's and a plan's text, most of them related and sound.
+pub fn text_pair(r: &mut Random) -> (Vec<u8>, Vec<u8>) {
+    let names = good_names(r);
+    let (module, plan) = random_pair(r);
+    let mut texts = (spelled(r, &module, &names), spelled(r, &plan, &names));
+    if r.percent(2) {
+        texts.0 = text_of_length(65_536);
+    }
+    let damages = r.pick(&[0, 0, 1, 1, 1, 2, 3]);
+    for _ in 0..damages {
+        let text = if r.percent(50) { &mut texts.0 } else { &mut texts.1 };
+        damage(r, text);
+    }
+    texts
+}
+
+fn random_pair(r: &mut Random) -> (Table, Table) {
+    if r.percent(1) {
+        return busy_module_and_plan(r);
+    }
+    let sizes = sizes(r);
+    module_and_plan(r, sizes)
+}
+
+/// A sound text of exactly so many bytes.
+pub fn text_of_length(length: usize) -> Vec<u8> {
+    let (table, spare) = table_of_text_length(length);
+    let letters: Vec<Vec<u8>> = (b'a'..=b'z').map(|letter| vec![letter]).collect();
+    text_of(&table, &vec![b'x'; spare + 1], &borrowed(&letters))
+}
+
+/// A text of the table: declarations in any order, then steps in any order.
+fn spelled(r: &mut Random, table: &Table, names: &[Vec<u8>]) -> Vec<u8> {
+    let names = borrowed(names);
+    let mut declarations: Vec<Vec<u8>> = members(table.signals()).map(|signal| declaration_line(table, &names, signal)).collect();
+    let mut steps = Vec::new();
+    for state in 0..table.states {
+        steps.extend(members(table.signals()).map(|signal| step_line(table, &names, state, signal)));
+    }
+    r.shuffle(&mut declarations);
+    r.shuffle(&mut steps);
+    let first = line(&[b"table", r.pick(&names), &digits(table.states), &digits(table.initial)]);
+    [first, declarations.concat(), steps.concat()].concat()
+}
+
+/// Damages a text in one of the ways that a refusal names, or at random.
+fn damage(r: &mut Random, text: &mut Vec<u8>) {
+    match r.below(21) {
+        0..=2 => damage_byte(r, text),
+        3..=6 => damage_lines(r, text),
+        7 => damage_states(r, text),
+        8..=12 => damage_field(r, text),
+        13 => damage_field_count(r, text),
+        14 => return_carriages(r, text),
+        15 => drop(text.pop()),
+        16..=17 => declare_more(r, text),
+        18 => text.truncate(r.below(text.len() + 1) * r.below(2)),
+        19 => lengthen(r, text),
+        _ => *text = nonsense(r),
+    }
+}
+
+fn damage_byte(r: &mut Random, text: &mut Vec<u8>) {
+    if text.is_empty() {
+        return;
+    }
+    let place = r.below(text.len());
+    match r.below(3) {
+        0 => text[place] ^= 1 << r.below(8),
+        1 => text[place] = r.pick(b"\0\xff\t\n\r 09Az_-\x7f"),
+        _ => text.insert(place, r.pick(b"\0\xff\t\n\r 09Az_-\xef")),
+    }
+}
+
+fn split(text: &[u8]) -> Vec<Vec<u8>> {
+    text.split_inclusive(|&byte| byte == b'\n').map(<[u8]>::to_vec).collect()
+}
+
+/// A line is dropped, doubled, exchanged with another, or comes again at the end with another last field: a step with another target.
+fn damage_lines(r: &mut Random, text: &mut Vec<u8>) {
+    let mut lines = split(text);
+    if lines.is_empty() {
+        return;
+    }
+    let (one, other) = (r.below(lines.len()), r.below(lines.len()));
+    match r.below(5) {
+        0 => drop(lines.remove(one)),
+        1 => lines.insert(other, lines[one].clone()),
+        2 => lines.swap(one, other),
+        3 => lines.push(lines[one].clone()),
+        _ => {
+            let mut fields: Vec<&[u8]> = lines[one].split(|&byte| byte == b'\t').collect();
+            fields.pop();
+            fields.push(r.pick(&[&b"0\n"[..], b"1\n", b"4096\n", b"65535\n"]));
+            lines.push(fields.join(&b'\t'));
+        }
+    }
+    *text = lines.concat();
+}
+
+/// The first line gets another number of states.
+fn damage_states(r: &mut Random, text: &mut Vec<u8>) {
+    let mut fields: Vec<Vec<u8>> = text.splitn(4, |&byte| byte == b'\t').map(<[u8]>::to_vec).collect();
+    if let Some(states) = fields.get_mut(2) {
+        *states = digits(r.pick(&[0, 1, 2, 1_024, 1_025, 4_096, 4_097, 65_535]));
+    }
+    *text = fields.join(&b'\t');
+}
+
+/// One field of one line, or two, so that the order of the numbers shows, becomes another name, number or nonsense.
+fn damage_field(r: &mut Random, text: &mut Vec<u8>) {
+    const FIELDS: &[&str] = &[
+        "", "0", "1", "2", "5", "00", "01", "007", "4095", "4096", "4097", "1024", "1025", "65535", "65536", "99999", "100000", "4294967297",
+        "-1", "+1", "1 ", " 1", "0x1", "a", "power", "Power", "s1", "in", "out", "step", "table", "Table", "hid", "abcdefghijklmnop",
+        "abcdefghijklmnopq", "a-b", "a b", "\u{e9}",
+    ];
+    edit_fields(r, text, |r, fields| {
+        for _ in 0..r.pick(&[1, 2]) {
+            let place = r.below(fields.len());
+            fields[place] = r.pick(FIELDS).as_bytes().to_vec();
+        }
+    });
+}
+
+/// A field is lost, doubled or moved.
+fn damage_field_count(r: &mut Random, text: &mut Vec<u8>) {
+    edit_fields(r, text, |r, fields| {
+        let place = r.below(fields.len());
+        match r.below(4) {
+            0 => drop(fields.remove(place)),
+            1 => fields.insert(place, fields[place].clone()),
+            2 => fields.push(Vec::new()),
+            _ => fields.reverse(),
+        }
+    });
+}
+
+/// Edits the fields of one line, often of the first; its LF stays.
+fn edit_fields(r: &mut Random, text: &mut Vec<u8>, edit: impl Fn(&mut Random, &mut Vec<Vec<u8>>)) {
+    let mut lines = split(text);
+    if lines.is_empty() {
+        return;
+    }
+    let place = if r.percent(25) { 0 } else { r.below(lines.len()) };
+    let Some(bare) = lines[place].strip_suffix(b"\n") else { return };
+    let mut fields: Vec<Vec<u8>> = bare.split(|&byte| byte == b'\t').map(<[u8]>::to_vec).collect();
+    edit(r, &mut fields);
+    lines[place] = [fields.join(&b'\t'), b"\n".to_vec()].concat();
+    *text = lines.concat();
+}
+
+/// CR before LF, on one line or on all.
+fn return_carriages(r: &mut Random, text: &mut Vec<u8>) {
+    let mut lines = split(text);
+    let all = r.percent(50);
+    let one = r.below(lines.len().max(1));
+    for (place, line) in lines.iter_mut().enumerate() {
+        if (all || place == one) && line.ends_with(b"\n") {
+            line.insert(line.len() - 1, b'\r');
+        }
+    }
+    *text = lines.concat();
+}
+
+/// Further declarations behind the first line, up to the last that is taken or one more.
+fn declare_more(r: &mut Random, text: &mut Vec<u8>) {
+    let mut lines = split(text);
+    let declared = lines.iter().filter(|line| line.starts_with(b"in\t") || line.starts_with(b"out\t")).count();
+    let full = SIGNALS.saturating_sub(declared);
+    let more = r.pick(&[1, full, full, full + 1, full + 1]);
+    let place = lines.len().min(1);
+    for number in 0..more {
+        let name = format!("n{number}");
+        lines.insert(place, line(&[r.pick(&[&b"in"[..], b"out"]), name.as_bytes()]));
+    }
+    *text = lines.concat();
+}
+
+/// The text grows to its limit, or one byte beyond it, by repeating its end.
+fn lengthen(r: &mut Random, text: &mut Vec<u8>) {
+    let length = r.pick(&[65_536, 65_537, 65_538, 70_000, 131_072]);
+    let filler: &[u8] = r.pick(&[&b"step\t0\ta\t0\n"[..], b"\n", b"x", b"\0"]);
+    while text.len() < length {
+        text.extend(filler);
+    }
+    text.truncate(length);
+}
+
+/// Words of the format in any order.
+fn nonsense(r: &mut Random) -> Vec<u8> {
+    const WORDS: &[&str] =
+        &["table", "in", "out", "step", "\t", "\t", "\n", "\n", "0", "1", "2", "a", "b", "in\ta\n", "table\ta\t2\t0\n", "step\t0\ta\t1\n"];
+    (0..r.below(40)).flat_map(|_| r.pick(WORDS).bytes()).collect()
+}

@@ -1,0 +1,49 @@
+//! The count of what passed and failed, and how often each outcome occurred.
+
+use std::collections::BTreeMap;
+
+#[derive(Default)]
+pub struct Tally {
+    passed: u64,
+    failed: u64,
+    seen: BTreeMap<String, u64>,
+}
+
+const MOST_SHOWN: u64 = 20;
+
+impl Tally {
+    /// One check; what it says of a failure is shown for the first failures alone.
+    pub fn check(&mut self, holds: bool, say: impl FnOnce() -> String) {
+        if holds {
+            self.passed += 1;
+            return;
+        }
+        self.failed += 1;
+        if self.failed <= MOST_SHOWN {
+            println!("failed: {}", say());
+        }
+    }
+
+    pub fn saw(&mut self, outcome: &str) {
+        self.saw_many(outcome, 1);
+    }
+
+    pub fn saw_many(&mut self, outcome: &str, times: u64) {
+        *self.seen.entry(outcome.to_string()).or_default() += times;
+    }
+
+    /// An outcome that can occur has to: a comparison that never meets it would say nothing about it.
+    pub fn must_have_seen(&mut self, outcome: &str) {
+        let seen = self.seen.contains_key(outcome);
+        self.check(seen, || format!("the outcome '{outcome}' never occurred"));
+    }
+
+    /// Prints the outcomes and the last line; whether all passed.
+    pub fn finish(self) -> bool {
+        for (outcome, times) in &self.seen {
+            println!("{times:>9} {outcome}");
+        }
+        println!("{} passed, {} failed", self.passed, self.failed);
+        self.failed == 0 && self.passed > 0
+    }
+}

@@ -1,0 +1,79 @@
+//! The writer of table text, and when two texts are the same but for the order that is left open.
+
+use crate::reply::{Outcome, Reply};
+use crate::table::{has, members, Table};
+use crate::text::{is_name, MOST_BYTES};
+
+/// Checks 1 to 6, 16 (table name, then signals), 18 and 23; then the text. Bytes past it stay.
+pub fn write(table: &Table, name: &[u8], names: &[&[u8]], out: &mut [u8]) -> Outcome {
+    if let Some(number) = table.fault() {
+        return Reply::refused(number, 1);
+    }
+    let declared: Vec<&[u8]> = members(table.signals()).map(|signal| signal_name(names, signal)).collect();
+    if !is_name(name) || !declared.iter().all(|name| is_name(name)) {
+        return Reply::refused(16, 0);
+    }
+    if (1..declared.len()).any(|later| declared[..later].contains(&declared[later])) {
+        return Reply::refused(18, 0);
+    }
+    let text = text_of(table, name, names);
+    if text.len() > out.len() || text.len() > MOST_BYTES {
+        return Reply::refused(23, 0);
+    }
+    out[..text.len()].copy_from_slice(&text);
+    Ok(Reply { value: text.len(), ..Reply::default() })
+}
+
+/// A name that was not lent is an empty one.
+fn signal_name<'n>(names: &[&'n [u8]], signal: usize) -> &'n [u8] {
+    names.get(signal).copied().unwrap_or(b"")
+}
+
+/// The text of an accepted table: signals by ascending number, steps by state of departure.
+pub fn text_of(table: &Table, name: &[u8], names: &[&[u8]]) -> Vec<u8> {
+    let mut text = line(&[b"table", name, &digits(table.states), &digits(table.initial)]);
+    for signal in members(table.signals()) {
+        text.extend(declaration_line(table, names, signal));
+    }
+    for state in 0..table.states {
+        for signal in members(table.signals()) {
+            text.extend(step_line(table, names, state, signal));
+        }
+    }
+    text
+}
+
+pub fn declaration_line(table: &Table, names: &[&[u8]], signal: usize) -> Vec<u8> {
+    let kind: &[u8] = if has(table.inputs, signal) { b"in" } else { b"out" };
+    line(&[kind, signal_name(names, signal)])
+}
+
+/// The line of a step, or nothing where there is no step.
+pub fn step_line(table: &Table, names: &[&[u8]], state: usize, signal: usize) -> Vec<u8> {
+    let Some(to) = table.step(state, signal) else { return Vec::new() };
+    line(&[b"step", &digits(state), signal_name(names, signal), &digits(to)])
+}
+
+pub fn line(fields: &[&[u8]]) -> Vec<u8> {
+    let mut line = fields.join(&b'\t');
+    line.push(b'\n');
+    line
+}
+
+pub fn digits(number: usize) -> Vec<u8> {
+    number.to_string().into_bytes()
+}
+
+/// The lines of a text with the step lines of each state sorted: texts that differ in the open order alone become equal.
+pub fn up_to_order(text: &[u8]) -> Vec<&[u8]> {
+    let mut lines: Vec<&[u8]> = text.split_inclusive(|&byte| byte == b'\n').collect();
+    for run in lines.chunk_by_mut(|one, next| departure(one).is_some() && departure(one) == departure(next)) {
+        run.sort();
+    }
+    lines
+}
+
+/// The state of departure, as it is written, of a step line.
+fn departure(line: &[u8]) -> Option<&[u8]> {
+    line.strip_prefix(b"step\t")?.split(|&byte| byte == b'\t').next()
+}
