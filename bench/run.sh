@@ -4,7 +4,7 @@ set -euo pipefail
 cd "$(dirname "$0")/.."
 
 archive=target/staticlib/libharness.a
-[ -f "$archive" ] || rt staticlib harness >&2
+rt staticlib harness >/dev/null
 
 out=$(mktemp -d)
 trap 'rm -rf "$out"' EXIT

@@ -38,25 +38,28 @@ static const struct step cal_steps[] = {{0, POWER, 1}, {1, SETTLED, 2}, {2, READ
 static const struct step hasty_steps[] = {{0, POWER, 1}, {1, READ, 2}};
 static const struct step plan_steps[] = {{0, START, 1}, {1, POWER, 2}, {2, SETTLED, 3}, {3, READ, 4}};
 
-/* Source 001, Figure 1: Comp sends a message, once more if the first time fails; User makes no provision for failure. */
+/* Source 001, Figure 1: Comp sends a message, and a second time if the first fails; User never expects that both do. */
 static const struct step user_steps[] = {{0, MSG, 1}, {1, OK, 0}};
 static const struct step comp_steps[] = {
     {0, MSG, 1}, {1, SEND, 2}, {2, ACK, 5}, {2, NACK, 3}, {3, SEND, 4}, {4, ACK, 5}, {4, NACK, 6}, {5, OK, 0}, {6, FAIL, 0}};
 
-/* Writes a table's cells, two bytes each, low byte first: no step but those given. */
+/* Writes a cell: two bytes, low byte first. */
+static void put(struct table *t, size_t cell, unsigned to)
+{
+    t->cells[cell * MOQRESAM_CELL_BYTES] = (uint8_t)(to & 0xff);
+    t->cells[cell * MOQRESAM_CELL_BYTES + 1] = (uint8_t)(to >> 8);
+}
+
+/* A table that has the steps given and no other. */
 static struct table make(const char *name, size_t states, uint32_t inputs, uint32_t outputs, const struct step *steps, size_t count)
 {
     struct table t = {name, states, 0, inputs, outputs, {0}};
     size_t k;
 
-    for (k = 0; k < states * MOQRESAM_STATE_BYTES; k++)
-        t.cells[k] = 0xff;
-    for (k = 0; k < count; k++) {
-        size_t at = 2 * (steps[k].from * 32 + steps[k].signal);
-
-        t.cells[at] = (uint8_t)(steps[k].to & 0xff);
-        t.cells[at + 1] = (uint8_t)(steps[k].to >> 8);
-    }
+    for (k = 0; k < states * MOQRESAM_SIGNALS; k++)
+        put(&t, k, MOQRESAM_NO_STEP);
+    for (k = 0; k < count; k++)
+        put(&t, steps[k].from * MOQRESAM_SIGNALS + steps[k].signal, steps[k].to);
     return t;
 }
 

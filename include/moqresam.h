@@ -12,7 +12,7 @@
  * that a call writes to does not overlap one that it reads; a follower is not NULL.
  *
  * Nothing is allocated and no state is kept, so calls may run at the same time on different buffers. Fit and refine want up to 1.4 MB of stack,
- * of which 0.9 MB also where the pairs are few; follow wants less than 1 KB.
+ * of which 0.9 MB in every call, also where the pairs are few or the call is refused; follow wants less than 1 KB.
  */
 #ifndef MOQRESAM_H
 #define MOQRESAM_H
@@ -25,26 +25,30 @@
 extern "C" {
 #endif
 
-/* The cell without a step, and the bytes of cells that a table of so many states has. */
+/* The cell without a step; the signals, and so the cells, of a state; the bytes of a cell, and of the cells of a state. */
 #define MOQRESAM_NO_STEP 65535u
+#define MOQRESAM_SIGNALS 32u
+#define MOQRESAM_CELL_BYTES 2u
 #define MOQRESAM_STATE_BYTES 64u
+
+/* The most states that a table may have, and the most pairs of states that fit and refine take. */
 #define MOQRESAM_MOST_STATES 4096u
 #define MOQRESAM_MOST_PAIRS 4096u
 
 /* Why a call is turned away. The names of tables: 1 the first, or the only one; 2 the second; 0 neither, for 7 to 10. */
 enum moqresam_refusal {
     MOQRESAM_ACCEPTED = 0,
-    MOQRESAM_STATES = 1,         /* the table has no state or more than 4,096 */
-    MOQRESAM_INITIAL = 2,        /* its first state is not below its number of states */
-    MOQRESAM_SHARED = 3,         /* a signal is in both of its lists */
-    MOQRESAM_CELL_BYTES = 4,     /* its cells are not states * 64 bytes */
-    MOQRESAM_CELL = 5,           /* a cell is neither 65,535 nor below the number of states */
-    MOQRESAM_UNDECLARED = 6,     /* a cell holds a step for a signal in neither list */
-    MOQRESAM_OUTPUT_OF_BOTH = 7, /* fit: a signal is an output of both tables */
-    MOQRESAM_PAIRS = 9,          /* the two state counts multiply to more than 4,096 */
-    MOQRESAM_BUFFER = 10,        /* the flags or marks are not exactly one byte a pair */
-    MOQRESAM_STATE = 11,         /* the follower's state is not below the number of states */
-    MOQRESAM_SIGNAL = 12         /* the signal exceeds 31 or is in neither list */
+    MOQRESAM_REFUSED_STATES = 1,         /* the table has no state or more than 4,096 */
+    MOQRESAM_REFUSED_INITIAL = 2,        /* its first state is not below its number of states */
+    MOQRESAM_REFUSED_SHARED = 3,         /* a signal is in both of its lists */
+    MOQRESAM_REFUSED_CELL_COUNT = 4,     /* its cells are not states * 64 bytes */
+    MOQRESAM_REFUSED_CELL = 5,           /* a cell is neither 65,535 nor below the number of states */
+    MOQRESAM_REFUSED_UNDECLARED = 6,     /* a cell holds a step for a signal in neither list */
+    MOQRESAM_REFUSED_OUTPUT_OF_BOTH = 7, /* fit: a signal is an output of both tables */
+    MOQRESAM_REFUSED_PAIRS = 9,          /* the two state counts multiply to more than 4,096 */
+    MOQRESAM_REFUSED_BUFFER = 10,        /* the flags or marks are not exactly one byte a pair */
+    MOQRESAM_REFUSED_STATE = 11,         /* the follower's state is not below the number of states */
+    MOQRESAM_REFUSED_SIGNAL = 12         /* the signal exceeds 31 or is in neither list */
 };
 
 /*

@@ -252,6 +252,17 @@ static void faults(const char *call, void (*refused)(const char *, struct table,
     }
 }
 
+/* Whether the first bytes of the lent room hold a value. */
+static bool all_are(size_t count, uint8_t value)
+{
+    size_t k;
+
+    for (k = 0; k < count; k++)
+        if (room[GUARD + k] != value)
+            return false;
+    return true;
+}
+
 static void test_fit(void)
 {
     struct table one = blank(1, 0, 0);
@@ -272,8 +283,8 @@ static void test_fit(void)
     fit_refused("a flag short", ref(), cal(), 11, 10, 0);
     fit_refused("a flag over", ref(), cal(), 13, 10, 0);
     fit_refused("no flag", ref(), cal(), 0, 10, 0);
-    check("64 by 64", fit(blank(64, 1, 0), blank(64, 0, 1), 4096).number == 0);
-    check("4096 by 1", fit(blank(4096, 1, 0), blank(1, 0, 1), 4096).number == 0);
+    check("64 by 64", fit(blank(64, 1, 0), blank(64, 0, 1), 4096).compatible && all_are(4096, 1));
+    check("4096 by 1", fit(blank(4096, 1, 0), blank(1, 0, 1), 4096).compatible && all_are(4096, 1));
     check("1 by 4096", fit(blank(1, 1, 0), blank(4096, 0, 1), 4096).number == 0);
     check("64 by 1, the smaller room", fit(blank(64, 1, 0), blank(1, 0, 1), 64).number == 0);
     check("65 by 1, the larger room", fit(blank(65, 1, 0), blank(1, 0, 1), 65).number == 0);
@@ -302,8 +313,8 @@ static void test_refine(void)
     refine_refused("64 by 65", blank(64, 1, 0), blank(65, 1, 0), 4160, 9, 0);
     refine_refused("a mark short", ref(), ref(), 8, 10, 0);
     refine_refused("a mark over", ref(), ref(), 10, 10, 0);
-    check("64 by 64", refine(blank(64, 1, 0), blank(64, 1, 0), 4096).refines);
-    check("4096 by 1", refine(blank(4096, 1, 0), blank(1, 1, 0), 4096).refines);
+    check("64 by 64", refine(blank(64, 1, 0), blank(64, 1, 0), 4096).refines && all_are(4096, 1));
+    check("4096 by 1", refine(blank(4096, 1, 0), blank(1, 1, 0), 4096).refines && all_are(4096, 1));
     check("1 by 65, the larger room", refine(blank(1, 1, 0), blank(65, 1, 0), 65).refines);
     check("no marks lent, no pair", moqresam_refine(0, 0, 0, 0, NULL, 0, 0, 0, 0, 0, NULL, 0, NULL, 0).number == 1);
 }
@@ -351,14 +362,19 @@ static void test_startup(void)
 {
     static const size_t signals[] = {READ, START, START, POWER, SETTLED, 40, READ, READ};
     static const size_t after[] = {0, 1, 1, 2, 3, 3, 4, 4};
+    static const uint32_t number[] = {0, 0, 0, 0, 0, 12, 0, 0};
+    static const bool moves[] = {false, true, false, true, true, false, true, false};
     struct table plan = blank(5, SET(START), SET(POWER) | SET(SETTLED) | SET(READ));
     moqresam_follower record = {0};
     size_t k;
 
     plan = step(step(step(step(plan, 0, START, 1), 1, POWER, 2), 2, SETTLED, 3), 3, READ, 4);
     for (k = 0; k < sizeof signals / sizeof signals[0]; k++) {
-        moqresam_follow_record(plan.states, plan.initial, plan.inputs, plan.outputs, plan.cells, plan.length, &record, signals[k]);
-        check("a startup", record.state == after[k]);
+        moqresam_follow_reply r =
+            moqresam_follow_record(plan.states, plan.initial, plan.inputs, plan.outputs, plan.cells, plan.length, &record, signals[k]);
+
+        check("a startup", record.state == after[k] && r.state == after[k]);
+        check("a startup's replies", r.number == number[k] && r.table == (number[k] != 0) && r.moved == moves[k]);
     }
 }
 

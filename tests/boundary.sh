@@ -73,7 +73,10 @@ for program in tests/boundary tests/boundary_random examples/bench; do
     try "$name compiles" compile "$name" "$program.c" -O2
     try "$name compiles, sanitized" compile "${name}_sanitized" "$program.c" "${sanitize[@]}"
 done
+# The header's linkage shows only in a C++ program that is linked.
+try "bench compiles as C++" g++ -std=c++11 "${strict[@]}" -O2 -x c++ examples/bench.c -x none "$archive" -o "$work/bench_cpp"
 try "bench prints what it must" bench_prints bench
+try "bench prints what it must, as C++" bench_prints bench_cpp
 try "bench prints what it must, sanitized" bench_prints bench_sanitized
 try "bench under valgrind" valgrind -q --error-exitcode=9 --leak-check=full "$work/bench"
 try "boundary passes, sanitized" counts boundary_sanitized

@@ -8,6 +8,9 @@ use crate::writer::{digits, line, write};
 
 const TEXT_BYTES: usize = 65_536;
 
+/// More pairs get 10, whatever room there is.
+const MOST_PAIRS: usize = 1_024;
+
 /// The cells and flags that there are for the two tables and the result.
 pub struct Room {
     pub module_cells: usize,
@@ -31,8 +34,8 @@ fn report(module: Option<&[u8]>, plan: Option<&[u8]>, room: &Room) -> Result<Vec
 
     // The buffers are cut to the pairs, as many as there is room for: so of 8, 9 and 10 for pairs the first that applies is given.
     let pairs = module.states * plan.states;
-    let mut cells = vec![0; room.cells.min(pairs * SIGNALS)];
-    let mut flags = vec![0; room.flags.min(pairs)];
+    let mut cells = vec![0; room.cells.min(pairs.min(MOST_PAIRS) * SIGNALS)];
+    let mut flags = vec![0; room.flags.min(pairs.min(MOST_PAIRS))];
     let reply = synthesize(&module, &plan, &mut cells, &mut flags)?;
 
     let names: Vec<&[u8]> = numbering.0.iter().map(Vec::as_slice).collect();
