@@ -19,4 +19,5 @@ bench: built
 # What soak and bench link and run.
 .PHONY: built
 built:
-	@log=$$(rt check sequencer harness moqresam 2>&1) || { echo "$$log"; exit 1; }
+	@log=$$(rt check sequencer 2>&1) || { echo "$$log"; exit 1; }
+	@bash tests/archives.sh

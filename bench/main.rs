@@ -157,14 +157,29 @@ fn measure(ls: &mut Libraries, r: &Ready) -> [f64; 3] {
     least
 }
 
+/// The three agree on all inputs of a job; the refusal of the first.
+fn agree_on_all(ls: &mut Libraries, r: &Ready) -> u32 {
+    let number = agree(ls, r, 0).number;
+    for i in 1..r.job.tables.len() {
+        agree(ls, r, i);
+    }
+    number
+}
+
 fn measured(ls: &mut Libraries, job: Job) -> Row {
     let r = ready(&job);
-    let number = agree(ls, &r, 0).number;
-    for i in 1..job.tables.len() {
-        agree(ls, &r, i);
-    }
+    let number = agree_on_all(ls, &r);
     let [archive, rust, c] = measure(ls, &r);
     Row { job, number, archive, rust, c }
+}
+
+/// Times nothing: a test of the baselines, and of the archive by them.
+fn only_agree(ls: &mut Libraries) {
+    let jobs = jobs::all("");
+    for job in &jobs {
+        agree_on_all(ls, &ready(job));
+    }
+    println!("The three agree on {} jobs and {} small inputs.", jobs.len(), try_all(ls).values().sum::<usize>());
 }
 
 /// Only calls, for a profiler: each job so many times on one library.
@@ -175,12 +190,15 @@ fn repeat(l: &mut dyn Library, jobs: &[Job], calls: usize) {
     }
 }
 
-/// Without arguments measures everything; with one, the jobs whose title has it. With three (part of a title; library: 0 archive, 1 Rust, 2 C;
-/// calls) see `repeat`.
+/// Without arguments measures everything; with one, the jobs whose title has it, or, if it is `agree`, nothing: see `only_agree`. With three (part
+/// of a title; library: 0 archive, 1 Rust, 2 C; calls) see `repeat`.
 fn main() {
     let args: Vec<String> = std::env::args().skip(1).collect();
-    let jobs = jobs::all(args.first().map_or("", |part| part));
     let mut ls: Libraries = [Box::new(Archive), Box::new(PlainRust(Scratch::new())), Box::new(PlainC)];
+    if args == ["agree"] {
+        return only_agree(&mut ls);
+    }
+    let jobs = jobs::all(args.first().map_or("", |part| part));
     if let [_, library, calls] = &args[..] {
         let number = |s: &String| s.parse::<usize>().expect("a number");
         return repeat(ls[number(library)].as_mut(), &jobs, number(calls));

@@ -1,7 +1,7 @@
 #!/usr/bin/env bash
-# The C boundary: builds the archive, compiles the header as C and as C++, runs the C tests, the comparison with a plain implementation and the
+# The C boundary: compiles the header as C and as C++, runs the C tests, the comparison with a plain implementation and the
 # bench program, each as built for release and under the address and undefined behaviour sanitizers; the bench program under valgrind too. The
-# last line is 'N passed, M failed'. It is run after `rt ci`, which removes target/.
+# last line is 'N passed, M failed'. It is run after archives.sh.
 set -u
 unset CDPATH
 cd -- "$(dirname -- "$0")/.." || { echo "0 passed, 1 failed"; exit 1; }
@@ -65,7 +65,6 @@ run() {
     fi
 }
 
-try "archive" rt staticlib moqresam
 try "header as C" gcc -std=c99 "${strict[@]}" -fsyntax-only -x c include/moqresam.h
 try "header as C++" g++ -std=c++11 "${strict[@]}" -fsyntax-only -x c++ include/moqresam.h
 for program in tests/boundary tests/boundary_random examples/bench; do

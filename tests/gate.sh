@@ -67,7 +67,9 @@ stage "edits" python3 tests/edits.py
 counted "cases" python3 tests/cases.py
 counted "cases under valgrind" python3 tests/cases.py valgrind -q --error-exitcode=9
 counted "examples" python3 tests/examples.py target/bin/sequencer
+stage "archives" bash tests/archives.sh
 counted "boundary" bash tests/boundary.sh
 counted "reference" bash tests/reference.sh
+stage "bench" bash bench/run.sh agree
 
 finished=yes

@@ -1,7 +1,7 @@
 #!/usr/bin/env bash
-# The library and the program against an independent implementation of document 01, tests/reference: builds the two archives, compiles the
-# reference with them, and compares on random and on all small tables, texts and sequencers. The last line is 'N passed, M failed'.
-# It is run after `rt ci`, which leaves the program in target/bin. With the argument `soak` it takes twenty times as many cases, and its seed
+# The library and the program against an independent implementation of document 01, tests/reference: compiles the reference with the two
+# archives, and compares on random and on all small tables, texts and sequencers. The last line is 'N passed, M failed'.
+# It is run after `rt ci`, which leaves the program in target/bin, and archives.sh. With the argument `soak` it takes twenty times as many cases, and its seed
 # from the date; the seed is printed, and the number of a failed case beside it repeats the case (tests/reference/main.rs says how).
 set -u
 unset CDPATH
@@ -62,8 +62,6 @@ run() {
 }
 
 echo "reference: seed $seed"
-try "archive for C" rt staticlib moqresam
-try "archive of all calls" rt staticlib harness
 try "comparison compiles" compile
 run selftest tests/cases
 run tables "$seed" "$((100000 * times))"

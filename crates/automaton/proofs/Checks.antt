@@ -6,7 +6,7 @@ use Prim.Native.Nat.{ℕ, _*_, _%_, _≤_, _<_}
 use lib.Bits.{bitOr}
 use lib.Dec.{eqb, ltb, eqb→eq, nltb→le, not-T}
 use lib.ListN.{getD, length, take, drop, take-append-drop, length-replicate}
-use borrow.Author.Tests.{eq-eqb, ne-eqb, lt-ltb, le-ltb, le-leb, lt-leb}
+use borrow.Author.Tests.{eq-eqb, ne-eqb, lt-ltb, le-ltb, le-leb, lt-leb, not-true}
 use Rattle.theory.specs.declared.Automaton.{Automaton}
 use Rattle.theory.specs.declared.Refusal.{Refusal}
 use Rattle.theory.specs.declared.Checked.{Checked}
@@ -15,11 +15,11 @@ use Rattle.theory.specs.Bounded.{any}
 use Rattle.theory.specs.Table.{Table, table, member}
 use Rattle.theory.specs.Checks.{Check, first, refuse, declared, tableChecks, monitorChecks}
 use Rattle.theory.proofs.Tests.{or-right}
-use Rattle.theory.proofs.Bounded.{any-cong}
+use Rattle.theory.proofs.Bounded.{any-cong, any-or}
 use Rattle.theory.proofs.Checks.{orElse, first-append, passed-first}
 use Rattle.theory.proofs.Sets.{member-or}
-use Rattle.automaton.specs.Cells.{Sized, stepless, least, faultAt}
-use Rattle.automaton.proofs.Least.{least-any}
+use Rattle.automaton.specs.Cells.{Sized, stepless, least, faultAt, flawed}
+use Rattle.automaton.proofs.Least.{or-none, least-any}
 
 -- ---- the first m checks of a list, then the others
 
@@ -136,6 +136,19 @@ module _ (i : ℕ) (a : Automaton) where
               size = eqb→eq (length cells) (n * 32) (rw Bool·not-not at (not-T (not (eqb (length cells) (n * 32))) c4));
             }
 
+        undeclared : (d : ℕ) → d ≡ bitOr (a .inputs) (a .outputs)
+            → any (n * 32) (λ k. ltb (getD cells k 65535) n && not (declared t (k % 32))) ≡ any (n * 32) (faultAt true n d cells)
+        undeclared d lists = any-cong (n * 32) _ (faultAt true n d cells) (λ k l. rw (union 0 d (k % 32) lists))
+
+        pub check-sound : (d : ℕ) (b : Bool) → d ≡ bitOr (a .inputs) (a .outputs) → b ≡ not (any (n * 32) (flawed n d cells)) → b ≡ true
+            → Accepted ≡ first (tableChecks i t)
+        unfolding first tableChecks
+        check-sound d b lists told h =
+            let five = faultAt false n d cells in
+            let six = faultAt true n d cells in
+            let (e, f) = or-none (any (n * 32) five) (any (n * 32) six) (sym (any-or (n * 32) five six) ∙ not-true _ (sym told ∙ h)) in
+            sym (part-accepted 4 (tableChecks i t) k shape fine ∙ rw (e, undeclared d lists, f))
+
         walked : (six : Bool) (d v : ℕ) → v ≡ least (n * 32) (faultAt six n d cells)
             → any (n * 32) (faultAt six n d cells) ≡ ltb v (length cells)
         walked six d v e = rw (e, sized .size) (sym (least-any (faultAt six n d cells) (n * 32)))
@@ -147,12 +160,9 @@ module _ (i : ℕ) (a : Automaton) where
 
           module _ (sound : length cells ≤ v) (lists : d ≡ bitOr (a .inputs) (a .outputs)) (w : ℕ)
               (six : w ≡ least (n * 32) (faultAt true n d cells)) where
-            undeclared : any (n * 32) (λ k. ltb (getD cells k 65535) n && not (declared t (k % 32))) ≡ ltb w (length cells)
-            undeclared = any-cong (n * 32) _ (faultAt true n d cells) (λ k l. rw (union 0 d (k % 32) lists)) ∙ walked true d w six
-
             rest : first (tableChecks i t) ≡ cond (ltb w (length cells)) (refuse 6 i) Accepted
             unfolding first tableChecks
-            rest = part-accepted 4 (tableChecks i t) k shape fine ∙ rw (walked false d v five, le-ltb v (length cells) sound, undeclared)
+            rest = part-accepted 4 (tableChecks i t) k shape fine ∙ rw (walked false d v five, le-ltb v (length cells) sound, undeclared d lists, walked true d w six)
 
             pub check-6 : (x : Checked) → w < length cells → x ≡ refuse 6 i → x ≡ first (tableChecks i t)
             check-6 x h e = e ∙ sym (rest ∙ rw (lt-ltb w (length cells) h))

@@ -13,7 +13,7 @@ use Rattle.theory.proofs.Tests.{same-test}
 use Rattle.theory.proofs.Bounded.{at-any}
 use Rattle.automaton.specs.Cells.{least}
 
-or-none : (b c : Bool) → (b || c) ≡ false → (b ≡ false) × (c ≡ false)
+pub or-none : (b c : Bool) → (b || c) ≡ false → (b ≡ false) × (c ≡ false)
 or-none true c e = (e, cc)
 or-none false c e = (refl, e)
 

@@ -1,6 +1,6 @@
 -- Cells as the code takes them: the first at fault, and what the monitor's own says.
 use mathlib.Core.Path.{_≡_}
-use mathlib.Core.Bool.{Bool, true, false, not, _&&_, cond}
+use mathlib.Core.Bool.{Bool, true, false, not, _&&_, _||_, cond}
 use mathlib.Core.List.{List}
 use Prim.Native.Nat.{ℕ, zero, suc, _*_, _%_, _≤_}
 use lib.Dec.{ltb}
@@ -35,6 +35,14 @@ fault true n acts cell a = ltb cell n && not (member acts a)
 -- The cell at k is.
 abbrev pub faultAt : Bool → ℕ → ℕ → List ℕ → ℕ → Bool
 faultAt six n acts cells k = fault six n acts (getD cells k 65535) (k % 32)
+
+-- It is by either.
+abbrev pub flawed : ℕ → ℕ → List ℕ → ℕ → Bool
+flawed n acts cells k = faultAt false n acts cells k || faultAt true n acts cells k
+
+-- What a step for the action is to be below, so that no check finds fault with it.
+abbrev pub limit : ℕ → ℕ → ℕ → ℕ
+limit n acts a = cond (member acts a) n 0
 
 -- Check 5 of the monitor's own cell, then its move.
 abbrev pub ownReply : ℕ → ℕ → Followed

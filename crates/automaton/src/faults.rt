@@ -1,7 +1,10 @@
-// Checks 5 and 6 (document 01, "A table"): one walk over the cells, row by row, to the first at fault.
+// Checks 5 and 6 (document 01, "A table"): one walk over the cells, row by row, to the first at fault; and whether there is any, at once.
 ghost use mathlib.Core.Path.{_≡_};
+ghost use mathlib.Core.Bool.{not, _||_};
 ghost use Prim.Native.Nat.{_*_};
-ghost use Rattle.automaton.specs.Cells.{Sized, fault as faultOf, faultAt, least};
+ghost use lib.Dec.{eqb, ltb};
+ghost use Rattle.theory.specs.Bounded.{any, tabulate};
+ghost use Rattle.automaton.specs.Cells.{Sized, fault as faultOf, faultAt, flawed, least, limit as limitOf};
 
 // Whether a cell is at fault: by check 5, or by check 6 if `six`. `acts` has the actions of both lists.
 fn fault(six: bool, cell: u16, states: usize, acts: u32, action: usize) -> bool
@@ -36,4 +39,49 @@ pub fn walk(six: bool, cells: &[u16], states: usize, acts: u32) -> usize
         }
     }
     at
+}
+
+// What a step for the action is to be below: the number of states, or 0 where the action is in neither list.
+fn limit(states: u16, acts: u32, action: usize) -> u16
+    ensures { λ r. ⌜ r ≡ limitOf states acts action ⌝ }
+{
+    if !sets::contains(acts, action) {
+        return 0;
+    }
+    states
+}
+
+fn limits(states: u16, acts: u32) -> [u16; 32]
+    ensures { λ r. ⌜ r ≡ tabulate (limitOf states acts) 0 32 ⌝ }
+{
+    let mut below = [0u16; 32];
+    for action in 0..32usize {
+        below[action] = limit(states, acts, action);
+    }
+    below
+}
+
+// Whether the cell is 65,535 or below the limit: 65,535 and 1 wrap to 0, and one comparison says both.
+fn fits(cell: u16, limit: u16) -> bool
+    ensures { λ r. ⌜ r ≡ (eqb cell 65535 || ltb cell limit) ⌝ }
+{
+    std::num::wrapping_add_u16(cell, 1) <= limit
+}
+
+// Whether no cell is at fault, by either check. No test leaves a row, so that the compiler compares many cells at once.
+pub fn is_sound(cells: &[u16], states: usize, acts: u32) -> bool
+    requires { ⌜ Sized states (now cells) ⌝ }
+    ensures { λ r. ⌜ r ≡ not (any (states * 32) (flawed states acts (now (cells .entry)))) ⌝ }
+{
+    let below = limits(states as u16, acts);
+    let mut sound = true;
+    for row in 0..states {
+        for action in 0..32usize {
+            sound = sound & fits(cells[row * 32 + action], below[action]);
+        }
+        if !sound {
+            return false;
+        }
+    }
+    sound
 }

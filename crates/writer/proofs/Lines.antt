@@ -1,9 +1,10 @@
 -- The lines of a table's text, one after the other.
-use mathlib.Core.Path.{_≡_, refl, ap, subst, _∙_}
-use mathlib.Core.Bool.{Bool, true, false, cond}
+use mathlib.Core.Path.{_≡_, refl, sym, ap, subst, _∙_}
+use mathlib.Core.Bool.{Bool, true, false, _&&_, cond, and-false}
 use mathlib.Core.List.{List, [], _∷_, _++_, map}
 use mathlib.Core.Option.{none, some}
 use Prim.Native.Nat.{ℕ, zero, suc, _+_, _-_, _*_, _^_, _≤_, _<_}
+use native.Mathlib.Decide.{decLt}
 use native.Mathlib.Numerals.{add-one}
 use native.Mathlib.Omega.{arith}
 use denote.Ref.{RefT, now}
@@ -19,12 +20,14 @@ use Rattle.theory.specs.Table.{Table, table, member, cellAt}
 use Rattle.theory.specs.Checks.{declared}
 use Rattle.theory.specs.Valid.{Valid}
 use Rattle.theory.proofs.Filled.{any-default}
+use Rattle.sets.proofs.Visit.{low}
 use Rattle.text.specs.Writing.{printed, those, signals, nameOf, tableRow, signalRow, stepRow, stepRows, textWith, hasStep, ascending}
+use Rattle.text.proofs.Entries.{is-true}
 use Rattle.text.proofs.Lengths.{printed-append}
 use Rattle.emit.specs.Rows.{tableText, signalText, stepText}
 use Rattle.emit.proofs.Buffer.{Puts, puts-none, puts-then, Left, left-all, left-next, left-none}
 use Rattle.names.specs.Names.{texts, Named}
-use Rattle.names.proofs.Names.{name-lent, lent-length}
+use Rattle.names.proofs.Names.{name-lent}
 use Rattle.names.proofs.Checks.{declared-has}
 use Rattle.names.proofs.Visit.{those-same, those-lowest, those-empty}
 use Rattle.writer.specs.Rows.{signalLines, cellText, steps, stateLines, stepLines, Writable}
@@ -59,30 +62,60 @@ module _ (d : List ℕ) (at n state : ℕ) (cell : ℕ) where
 
 -- ---- steps
 
-pub steps-named : (n : ℕ) (cells : List ℕ) (l : List (RefT (List ℕ))) (state first s : ℕ) → Writable n cells (texts l) → state < n
-    → first ≡ state * 32 → s < 32 → getD cells (first + s) 0 < n → s < length l
-steps-named n cells l state first s w h f k c =
-    let e : getD cells (first + s) 0 ≡ getD cells (state * 32 + s) 65535 = rw f (any-default cells (state * 32 + s) 0 65535 (omega arith)) in
-    omega (arith, w .named state s h k (omega arith), lent-length l)
+-- The numbers of a list that pass the test.
+keep : (ℕ → Bool) → List ℕ → List ℕ
+keep f [] = []
+keep f (x ∷ l) = cond (f x) (x ∷ keep f l) (keep f l)
+
+those-keep : (f g : ℕ → Bool) (i n : ℕ) → those (λ a. g a && f a) i n ≡ keep f (those g i n)
+unfolding those keep
+those-keep f g i zero = refl
+those-keep f g i (suc n) = rw (those-keep f g (suc i) n) (go (g i) (those g (suc i) n))
+  where
+    go : (b : Bool) (l : List ℕ) → cond (b && f i) (i ∷ keep f l) (keep f l) ≡ keep f (cond b (i ∷ l) l)
+    go true l = refl
+    go false l = refl
 
 module _ (n : ℕ) (cells : List ℕ) (names : List (List ℕ)) where
   abbrev t : Table
   t = steps n cells
 
-  -- The steps of a state by the signals from s on.
-  abbrev pub stepsFrom : ℕ → ℕ → List ℕ
-  stepsFrom state s = printed (map (stepRow t names state) (those (hasStep t state) s (32 - s)))
+  -- The steps of a state by the signals of a set.
+  pub stepsBy : ℕ → ℕ → List ℕ
+  stepsBy state set = printed (map (stepRow t names state) (keep (hasStep t state) (those (has set) 0 32)))
 
-  pub steps-next : (state s : ℕ) → s < 32 → stepsFrom state s ≡ cellText n state (nameOf names s) (cellAt t state s) ++ stepsFrom state (s + 1)
-  unfolding those stepRow
-  steps-next state s h =
-      let e : 32 - s ≡ suc (32 - (s + 1)) = omega arith in
-      rw (e, lt-ltb s 32 h, add-one s) (go (ltb (cellAt t state s) n) (those (hasStep t state) (suc s) (32 - suc s)))
+  steps-next : (state left : ℕ) → left < 2 ^ 32 → ¬ (left ≡ 0)
+      → stepsBy state left
+      ≡ cellText n state (nameOf names (trailingZeros 32 left)) (cellAt t state (trailingZeros 32 left))
+      ++ stepsBy state (left - 2 ^ trailingZeros 32 left)
+  unfolding stepsBy keep stepRow
+  steps-next state left bound more =
+      let s = trailingZeros 32 left in
+      rw (those-lowest 32 left (omega arith) bound, lt-ltb s 32 (low 32 left (omega arith) bound .below))
+      (go s (ltb (cellAt t state s) n) (keep (hasStep t state) (those (has (left - 2 ^ s)) 0 32)))
     where
-      go : (b : Bool) (l : List ℕ) → printed (map (stepRow t names state) (cond (isSome (cond b (some (cellAt t state s)) none)) (s ∷ l) l))
+      go : (s : ℕ) (b : Bool) (l : List ℕ) → printed (map (stepRow t names state) (cond (isSome (cond b (some (cellAt t state s)) none)) (s ∷ l) l))
           ≡ cond b (stepText state (nameOf names s) (cellAt t state s)) [] ++ printed (map (stepRow t names state) l)
-      go true l = printed-append (stepRow t names state s ∷ []) (map (stepRow t names state) l)
-      go false l = refl
+      go s true l = printed-append (stepRow t names state s ∷ []) (map (stepRow t names state) l)
+      go s false l = refl
+
+  -- The signals of a writable table have all its steps.
+  steps-by : (state signals : ℕ) → Writable n cells signals names → state < n → stateLines n cells names state ≡ stepsBy state signals
+  unfolding stepsBy ascending
+  steps-by state signals w h =
+      ap (λ (l : List ℕ). printed (map (stepRow t names state) l))
+      (those-same (hasStep t state) (λ a. has signals a && hasStep t state a) 0 32 (λ a z k. known a (omega arith))
+      ∙ those-keep (hasStep t state) (has signals) 0 32)
+    where
+      known : (a : ℕ) → a < 32 → hasStep t state a ≡ (has signals a && hasStep t state a)
+      known a k = elim (decLt (cellAt t state a) n) [
+        | yes c ↦ rw (is-true (has signals a) (w .known state a h k c))
+        | no g ↦ rw (lt-ltb a 32 k, le-ltb (cellAt t state a) n (omega arith)) (sym (and-false (has signals a)))
+      ]
+
+  pub steps-all : (state signals : ℕ) → Writable n cells signals names → state < n → (d : List ℕ) (at : ℕ)
+      → Left d at (stateLines n cells names state) d at (stepsBy state signals)
+  steps-all state signals w h d at = rw (← steps-by state signals w h) (left-all d at (stateLines n cells names state))
 
   -- The steps of the states from s on.
   abbrev pub rowsFrom : ℕ → List ℕ
@@ -97,18 +130,22 @@ module _ (n : ℕ) (cells : List ℕ) (names : List (List ℕ)) where
   pub rows-all : (d : List ℕ) (at : ℕ) → Left d at (stepLines n cells names) d at (rowsFrom 0)
   rows-all d at = let e : n - 0 ≡ n = omega arith in rw e (left-all d at (stepLines n cells names))
 
+  module _ (d₀ : List ℕ) (at₀ : ℕ) (whole d : List ℕ) (end : ℕ) where
+    pub steps-again : (state first left s : ℕ) → first ≡ state * 32 → Left d₀ at₀ whole d end (stepsBy state left) → left < 2 ^ 32 → ¬ (left ≡ 0)
+        → state < n → length cells ≡ n * 32 → s ≡ trailingZeros 32 left
+        → (r : ℕ) (b : List ℕ) → Puts d end (cellText n state (nameOf names s) (getD cells (first + s) 0)) r b
+        → (left′ : ℕ) → left′ ≡ left - 2 ^ trailingZeros 32 left → Left d₀ at₀ whole b r (stepsBy state left′)
+    steps-again state first left s f l bound more k e q r b p left′ g =
+        let below : trailingZeros 32 left < 32 = low 32 left (omega arith) bound .below in
+        rw g
+        (left-next d₀ at₀ whole d end (stepsBy state left) l _ (stepsBy state (left - 2 ^ trailingZeros 32 left)) r b (steps-next state left bound more)
+        (rw (f, q, any-default cells (state * 32 + trailingZeros 32 left) 0 65535 (omega arith)) at p))
+
+    pub steps-done : (state left : ℕ) → Left d₀ at₀ whole d end (stepsBy state left) → left ≡ 0 → Puts d₀ at₀ whole end d
+    unfolding stepsBy keep printed
+    steps-done state left l e = left-none d₀ at₀ whole d end (stepsBy state left) l (rw (e, those-empty 32))
+
   module _ (d₀ : List ℕ) (at₀ : ℕ) (whole d : List ℕ) (end s : ℕ) where
-    pub steps-again : (state first : ℕ) → first ≡ state * 32 → Left d₀ at₀ whole d end (stepsFrom state s) → s < 32 → state < n
-        → length cells ≡ n * 32 → (r : ℕ) (b : List ℕ) → Puts d end (cellText n state (nameOf names s) (getD cells (first + s) 0)) r b
-        → Left d₀ at₀ whole b r (stepsFrom state (s + 1))
-    steps-again state first f l h k e r b p =
-        left-next d₀ at₀ whole d end (stepsFrom state s) l _ (stepsFrom state (s + 1)) r b (steps-next state s h)
-        (rw (f, any-default cells (state * 32 + s) 0 65535 (omega arith)) at p)
-
-    pub steps-done : (state : ℕ) → Left d₀ at₀ whole d end (stepsFrom state s) → 32 ≤ s → Puts d₀ at₀ whole end d
-    unfolding those printed
-    steps-done state l h = left-none d₀ at₀ whole d end (stepsFrom state s) l (let e : 32 - s ≡ 0 = omega arith in rw e)
-
     pub rows-again : Left d₀ at₀ whole d end (rowsFrom s) → s < n → (r : ℕ) (b : List ℕ) → Puts d end (stateLines n cells names s) r b
         → Left d₀ at₀ whole b r (rowsFrom (s + 1))
     rows-again l h r b p = left-next d₀ at₀ whole d end (rowsFrom s) l _ (rowsFrom (s + 1)) r b (rows-next s h) p
@@ -123,14 +160,15 @@ module _ (a : Automaton) (cells : List ℕ) (names : List (List ℕ)) where
   abbrev acts : ℕ
   acts = bitOr (a .inputs) (a .outputs)
 
-  pub text-writable : Valid (table a cells) → Named acts names → Writable (a .states) cells names
-  text-writable v m = record {
+  pub text-writable : (set : ℕ) → set ≡ acts → Valid (table a cells) → Named acts names → Writable (a .states) cells set names
+  text-writable set e v m = rw e (record {
     few = v .few-states;
     size = v .size;
-    named = λ s x h k c.
+    known = λ s x h k c.
         let u = cellAt (table a cells) s x in
-        m .entry x k (subst T (declared-has a cells x k) (v .known s x u h (rw (lt-ltb x 32 k, lt-ltb u (a .states) c))));
-  }
+        subst T (declared-has a cells x k) (v .known s x u h (rw (lt-ltb x 32 k, lt-ltb u (a .states) c)));
+    named = m;
+  })
 
   all-signals : printed (map (signalRow (table a cells) names) (signals (table a cells))) ≡ signalLines acts (a .inputs) names
   unfolding signals signalLines signalRow

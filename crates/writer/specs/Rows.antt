@@ -3,12 +3,13 @@ use mathlib.Core.Path.{_≡_}
 use mathlib.Core.Bool.{cond}
 use mathlib.Core.List.{List, [], map}
 use Prim.Native.Nat.{ℕ, _+_, _*_, _≤_, _<_}
-use lib.Dec.{ltb}
+use lib.Dec.{T, ltb}
 use lib.ListN.{length, getD}
 use Rattle.theory.specs.Sets.{has}
 use Rattle.theory.specs.Table.{Table, table}
 use Rattle.text.specs.Writing.{printed, those, signalRow, stepRow, stepRows, ascending}
 use Rattle.emit.specs.Rows.{stepText}
+use Rattle.names.specs.Names.{Named}
 
 -- The declarations of the signals of a set, by ascending number; those of `inputs` are inputs.
 unfoldable pub signalLines : ℕ → ℕ → List (List ℕ) → List ℕ
@@ -29,8 +30,9 @@ stateLines n cells names s = printed (map (stepRow (steps n cells) names s) (asc
 abbrev pub stepLines : ℕ → List ℕ → List (List ℕ) → List ℕ
 stepLines n cells names = printed (stepRows (ascending (steps n cells)) (steps n cells) names 0 n)
 
--- All cells are there, and the signal of every step has an entry.
-pub record Writable (n : ℕ) (cells : List ℕ) (names : List (List ℕ)) : Type 0 where
+-- All cells are there, the signal of every step is among the signals, and each of these has an entry.
+pub record Writable (n : ℕ) (cells : List ℕ) (signals : ℕ) (names : List (List ℕ)) : Type 0 where
   pub few : n ≤ 4096
   pub size : length cells ≡ n * 32
-  pub named : (s a : ℕ) → s < n → a < 32 → getD cells (s * 32 + a) 65535 < n → a < length names
+  pub known : (s a : ℕ) → s < n → a < 32 → getD cells (s * 32 + a) 65535 < n → T (has signals a)
+  pub named : Named signals names

@@ -49,37 +49,48 @@ fn cell_line(
     emit::step_line(d, at, from, names[signal], to)
 }
 
-// The steps of a state, by ascending signal.
+// The steps of a state, by ascending signal. Tables declare few of the 32 signals, so only these are visited.
 fn state_lines(
     d: &mut [u8],
     at: usize,
     states: usize,
     cells: &[u16],
     state: usize,
+    signals: u32,
     names: &[&[u8]],
 ) -> usize
-    requires { ⌜ Writable states (now cells) (texts (now names)) ⌝ }
+    requires { ⌜ Writable states (now cells) signals (texts (now names)) ⌝ }
     requires { ⌜ state < states ⌝ }
     ensures { λ r. ⌜ r ≡ after (length (now (d .entry))) at (stateLines states (now (cells .entry)) (texts (now (names .entry))) state) ⌝ }
     ensures { λ r. ⌜ now (d .exit) ≡ stored (now (d .entry)) at (stateLines states (now (cells .entry)) (texts (now (names .entry))) state) ⌝ }
 {
     let first = state * 32;
     let mut end = at;
-    for s in 0..32usize {
+    let mut left = signals;
+    while left != 0 {
+        let s = sets::lowest(left) as usize;
         end = cell_line(d, end, states, state, names, s, cells[first + s]);
+        left = sets::rest(left);
     }
     end
 }
 
 // The steps, sorted by state of departure.
-fn step_lines(d: &mut [u8], at: usize, states: usize, cells: &[u16], names: &[&[u8]]) -> usize
-    requires { ⌜ Writable states (now cells) (texts (now names)) ⌝ }
+fn step_lines(
+    d: &mut [u8],
+    at: usize,
+    states: usize,
+    cells: &[u16],
+    signals: u32,
+    names: &[&[u8]],
+) -> usize
+    requires { ⌜ Writable states (now cells) signals (texts (now names)) ⌝ }
     ensures { λ r. ⌜ r ≡ after (length (now (d .entry))) at (stepLines states (now (cells .entry)) (texts (now (names .entry)))) ⌝ }
     ensures { λ r. ⌜ now (d .exit) ≡ stored (now (d .entry)) at (stepLines states (now (cells .entry)) (texts (now (names .entry)))) ⌝ }
 {
     let mut end = at;
     for s in 0..states {
-        end = state_lines(d, end, states, cells, s, names);
+        end = state_lines(d, end, states, cells, s, signals, names);
     }
     end
 }
@@ -92,6 +103,7 @@ pub fn text(d: &mut [u8], a: Automaton, cells: &[u16], name: &[u8], names: &[&[u
     ensures { λ r. ⌜ now (d .exit) ≡ stored (now (d .entry)) 0 (textWith (ascending (table a (now (cells .entry)))) (table a (now (cells .entry))) (now (name .entry)) (texts (now (names .entry)))) ⌝ }
 {
     let i = emit::table_line(d, 0, name, a.states, a.initial);
-    let j = signal_lines(d, i, automaton::declared(a), a.inputs, names);
-    step_lines(d, j, a.states, cells, names)
+    let signals = automaton::declared(a);
+    let j = signal_lines(d, i, signals, a.inputs, names);
+    step_lines(d, j, a.states, cells, signals, names)
 }

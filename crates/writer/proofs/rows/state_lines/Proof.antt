@@ -1,74 +1,92 @@
-use mathlib.Core.Path.{refl}
+use mathlib.Core.Path.{_≡_, refl}
+use Prim.Native.Nat.{_*_, _^_, _<_}
 use native.Mathlib.Omega.{arith}
-use Rattle.text.specs.Writing.{ascending}
-use Rattle.writer.proofs.Lines.{steps-named}
-use Prim.Native.Nat.{_-_, _*_, _≤_}
-use mathlib.Core.Path.{_≡_}
-use Rattle.emit.proofs.Buffer.{Left, left-all}
-use Rattle.names.specs.Names.{texts}
+use lib.Count.{trailingZeros}
+use lib.ListN.{length}
+use lib.Pow.{pow-pos}
+use Rattle.sets.proofs.Visit.{low}
+use Rattle.emit.proofs.Buffer.{Left}
+use Rattle.names.specs.Names.{texts, Named}
+use Rattle.names.proofs.Names.{lent-length, named-lowest, named-rest}
 use Rattle.writer.specs.Rows.{stateLines}
-use Rattle.writer.proofs.Lines.{stepsFrom, steps-again, steps-done}
+use Rattle.writer.proofs.Lines.{stepsBy, steps-all, steps-again, steps-done}
 use borrow.Author.Needs.{needs}
 use Rattle.writer.proofs.rows.state_lines.Statement.{statement}
 use Rattle.writer.proofs.rows.state_lines.Tie as tie
 
 abbrev Inv-loop : tie.InvT-loop
-Inv-loop d₀ at states cells state names first end₀ s₀ d end s =
-    (s ≤ 32) × (first ≡ state * 32) × Left d₀ at (stateLines states cells (texts names) state) d end (stepsFrom states cells (texts names) state s)
+Inv-loop d₀ at states cells state signals names first end₀ left₀ d end left =
+    (left < 2 ^ 32) × (first ≡ state * 32) × Named left (texts names)
+    × Left d₀ at (stateLines states cells (texts names) state) d end (stepsBy states cells (texts names) state left)
 
 abbrev μ-loop : tie.MeasureT-loop
-μ-loop d₀ at states cells state names first end₀ s₀ d end s = 32 - s
+μ-loop d₀ at states cells state signals names first end₀ left₀ d end left = left
+
+-- The visited signal is one of the 32, and has an entry.
+below : (c : tie.After-lowest Inv-loop μ-loop) → c .lowest .result < 32
+below c =
+    let l = c .before .before .loop in
+    omega (arith, low 32 (l .left) (omega arith) (l .inv .0) .below, c .lowest .ensures)
+
+entry : (c : tie.After-lowest Inv-loop μ-loop) → c .lowest .result < length (c .before .before .before .before .before .args .names .now)
+entry c =
+    let l = c .before .before in
+    let names = l .before .before .before .args .names .now in
+    omega (arith, named-lowest _ (l .loop .left) (l .loop .inv .0) (c .before .loop-test .taken) (l .loop .inv .2), lent-length names, c .lowest .ensures)
 
 mul-first : tie.Need-mul-first Inv-loop μ-loop
 mul-first c = search needs
 
 loop-holds : tie.Need-loop-holds Inv-loop μ-loop
-unfolding ascending
-loop-holds c = (omega arith, refl, left-all _ _ _)
+loop-holds c =
+    let s = c .before .before in
+    (search needs, refl, s .pre .0 .named, steps-all _ _ _ (s .args .state) _ (s .pre .0) (s .pre .1) _ _)
+
+lowest-requires : tie.Need-lowest-requires Inv-loop μ-loop
+lowest-requires c κs = search needs
+
+cast-s : tie.Need-cast-s Inv-loop μ-loop
+cast-s c = search needs
 
 add-cell-line : tie.Need-add-cell-line Inv-loop μ-loop
-add-cell-line c = search needs
+add-cell-line c = omega (arith, below (c .before))
 
 mul-cell-line : tie.Need-mul-cell-line Inv-loop μ-loop
-mul-cell-line c = search needs
+mul-cell-line c = omega (arith, below (c .before))
 
 shared-slice-read-cell-line : tie.Need-shared-slice-read-cell-line Inv-loop μ-loop
-shared-slice-read-cell-line c = search needs
+shared-slice-read-cell-line c = omega (arith, below (c .before .before))
 
 cell-line-requires : tie.Need-cell-line-requires Inv-loop μ-loop
-cell-line-requires c κs =
-    let i = c .before .before in
-    let l = i .before .loop in
-    let s = i .before .before .before .before in
-    let a = s .args in
-    λ h. steps-named (a .states) (a .cells .now) (a .names .now) (a .state) _ (l .s) (s .pre .0) (s .pre .1) (l .inv .1) (i .loop-test .taken) h
+cell-line-requires c κs = λ h. entry (c .before .before)
 
-add-s : tie.Need-add-s Inv-loop μ-loop
-add-s c = search needs
+rest-requires : tie.Need-rest-requires Inv-loop μ-loop
+rest-requires c κs = search needs
 
 loop-less : tie.Need-loop-less Inv-loop μ-loop
-loop-less c = search needs
+loop-less c =
+    let l = c .before .before .before .before .before .before .before .before .loop in
+    omega (arith, pow-pos (trailingZeros 32 (l .left)), c .rest .ensures)
 
 loop-again : tie.Need-loop-again Inv-loop μ-loop
 loop-again c =
-    let i = c .before .before .before .before .before in
-    let l = i .before .loop in
-    let s = i .before .before .before .before in
-    let a = s .args in (
-      omega arith,
-      l .inv .1,
-      steps-again (a .states) (a .cells .now) _ _ _ _ _ _ (l .s) (a .state) _ (l .inv .1) (l .inv .2) (i .loop-test .taken) (s .pre .1)
-          (s .pre .0 .size) _ _ (c .before .before .cell-line .ensures),
+    let p = c .before .before .before in
+    let v = p .before .before .before in
+    let l = v .before .before in
+    let s = l .before .before .before in
+    let more = v .before .loop-test .taken in (
+      omega (arith, c .rest .ensures),
+      l .loop .inv .1,
+      rw (c .rest .ensures) (named-rest _ (l .loop .left) (l .loop .inv .0) more (l .loop .inv .2)),
+      steps-again (s .args .states) (s .args .cells .now) _ _ _ _ _ _ (s .args .state) _ (l .loop .left) _ (l .loop .inv .1) (l .loop .inv .3) (l .loop .inv .0) more
+          (s .pre .1) (s .pre .0 .size) (v .lowest .ensures) _ _ (p .cell-line .ensures) _ (c .rest .ensures),
     )
 
 same-length : tie.Need-same-length Inv-loop μ-loop
 same-length c = search needs
 
 returns : tie.Need-returns Inv-loop μ-loop
-returns c =
-    let l = c .before .loop in
-    let a = c .before .before .before .before .args in
-    steps-done (a .states) (a .cells .now) _ _ _ _ _ _ (l .s) (a .state) (l .inv .2) (omega arith)
+returns c = steps-done _ _ _ _ _ _ _ _ _ (c .before .loop .left) (c .before .loop .inv .3) (c .loop-test .left)
 
 pub state-lines-spec : {M : Type 1} → statement M
 state-lines-spec =
@@ -78,11 +96,13 @@ state-lines-spec =
     μ-loop
     mul-first
     loop-holds
+    lowest-requires
+    cast-s
     add-cell-line
     mul-cell-line
     shared-slice-read-cell-line
     cell-line-requires
-    add-s
+    rest-requires
     loop-less
     loop-again
     same-length

@@ -9,11 +9,11 @@ use Rattle.writer.proofs.rows.step_lines.Statement.{statement}
 use Rattle.writer.proofs.rows.step_lines.Tie as tie
 
 abbrev Inv-loop : tie.InvT-loop
-Inv-loop d₀ at states cells names end₀ s₀ d end s =
+Inv-loop d₀ at states cells signals names end₀ s₀ d end s =
     (s ≤ states) × Left d₀ at (stepLines states cells (texts names)) d end (rowsFrom states cells (texts names) s)
 
 abbrev μ-loop : tie.MeasureT-loop
-μ-loop d₀ at states cells names end₀ s₀ d end s = states - s
+μ-loop d₀ at states cells signals names end₀ s₀ d end s = states - s
 
 loop-holds : tie.Need-loop-holds Inv-loop μ-loop
 loop-holds c = (omega arith, rows-all _ _ _ _ _)

@@ -13,12 +13,12 @@ declared-requires c κs = search needs
 signal-lines-requires : tie.Need-signal-lines-requires
 signal-lines-requires c κs =
     let s = c .before .before .before .before .before .before .before .before .before in
-    rw (c .declared .ensures) (s .pre .1)
+    rw (c .before .declared .ensures) (s .pre .1)
 
 step-lines-requires : tie.Need-step-lines-requires
 step-lines-requires c κs =
     let s = c .before .before .before .before .before .before .before .before .before .before .before .before .before in
-    text-writable (s .args .a) (s .args .cells .now) _ (s .pre .0) (s .pre .1)
+    text-writable (s .args .a) (s .args .cells .now) _ _ (c .before .before .before .before .before .declared .ensures) (s .pre .0) (s .pre .1)
 
 same-length : tie.Need-same-length
 same-length c = search needs
@@ -29,7 +29,7 @@ returns c =
     let j = k .before .before .before .before in
     let i = j .before .before .before .before .before in
     let a = i .before .before .before .before .before .args in
-    text-put (a .a) (a .cells .now) (texts (a .names .now)) (a .name .now) _ _ _ _ _ _ _ (i .table-line .ensures) _ (j .before .declared .ensures) (j .signal-lines .ensures) (k .step-lines .ensures)
+    text-put (a .a) (a .cells .now) (texts (a .names .now)) (a .name .now) _ _ _ _ _ _ _ (i .table-line .ensures) _ (j .before .before .declared .ensures) (j .signal-lines .ensures) (k .step-lines .ensures)
 
 pub text-spec : {M : Type 1} → statement M
 text-spec =
