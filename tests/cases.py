@@ -40,12 +40,19 @@ def fault(case):
     return None
 
 
+def unwritten():
+    """What is wrong where the report cannot be written: it has to be told of on standard error. None if nothing is."""
+    with open("/dev/full", "wb") as full:
+        run = subprocess.run(COMMAND, cwd=os.path.join(TOP, "examples", "ref"), stdin=subprocess.DEVNULL, stdout=full, stderr=subprocess.PIPE)
+    return None if b"could not be written" in run.stderr else "a report that cannot be written is not told of"
+
+
 def main():
     passed, failed = 0, 0
     names = sorted(os.listdir(CASES))
     with concurrent.futures.ThreadPoolExecutor(os.cpu_count()) as pool:
         faults = list(pool.map(lambda name: fault(os.path.join(CASES, name)), names))
-    for name, wrong in zip(names, faults):
+    for name, wrong in [*zip(names, faults), ("no room for the report", unwritten())]:
         if wrong is None:
             passed += 1
         else:

@@ -1,6 +1,6 @@
 pub mod Counts
-pub mod Links
 pub mod Fronts
 pub mod Walks
 pub mod Turns
 pub mod Seeds
+pub mod Replies

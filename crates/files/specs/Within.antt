@@ -5,7 +5,7 @@ use Rattle.io.specs.Counts.{Counts}
 use Rattle.files.specs.declared.File.{File}
 use Rattle.files.specs.declared.File.the-variants.{Bytes, Unreadable}
 
--- The bytes that were read stand at the start of the buffer, which holds them all.
+-- A count that the buffer holds; which bytes they are is the operating system's.
 abbrev pub Within : File → List ℕ → Type 0
 Within (Bytes k) buf = Counts k buf
 Within Unreadable buf = Unit {0}

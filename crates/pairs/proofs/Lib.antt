@@ -1,3 +1,4 @@
+pub mod Edges
 pub mod Laws
 pub mod Bytes
 pub mod Replies

@@ -3,3 +3,4 @@ pub mod Texts
 pub mod Made
 pub mod Whole
 pub mod Short
+pub mod Meaning

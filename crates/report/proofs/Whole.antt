@@ -25,8 +25,10 @@ use Rattle.reader.specs.declared.Together.{Together}
 use Rattle.reader.specs.declared.Together.the-variants as together
 use Rattle.reader.specs.Replies.{togetherReply}
 use Rattle.synthesis.specs.Replies.{synthesisCells, synthesisFlags}
-use Rattle.report.specs.Report.{refusalText, tableRead, lentPairs, madeText, reportWith, roomOf, printedTable, Reported, cellsMade, flagsMade, cellsLeft, flagsLeft}
-use Rattle.report.specs.Parts.{lesserOf, InOrder, pairsText, Holds, Makes}
+use Rattle.files.specs.declared.File.{File}
+use Rattle.files.specs.declared.File.the-variants.{Bytes, Unreadable}
+use Rattle.report.specs.Report.{refusalText, tableRead, lesserOf, lentPairs, madeText, reportWith, roomOf, printedTable, Reported, cellsMade, flagsMade, cellsLeft, flagsLeft, Unread, Told, Ran}
+use Rattle.report.specs.Parts.{InOrder, pairsText, Holds, Makes}
 use Rattle.report.proofs.Made.{in-order-same}
 
 -- ---- the lesser of two numbers
@@ -38,7 +40,7 @@ module _ (a b : ℕ) where
   pub lesser-second : b < a → b ≡ lesserOf a b
   lesser-second h = rw (lt-leb a b h)
 
-  lesser-le : (lesserOf a b ≤ a) × (lesserOf a b ≤ b)
+  pub lesser-le : (lesserOf a b ≤ a) × (lesserOf a b ≤ b)
   lesser-le = elim (decLe a b) [
     | yes h ↦ rw (le-leb a b h) (let z : a ≤ a = omega arith in z, h)
     | no g ↦ let l : b < a = omega arith in rw (lt-leb a b l) (let z : b ≤ a = omega arith in z, let w : b ≤ b = omega arith in w)
@@ -54,16 +56,25 @@ front (Refused r) l l′ j = take-append-drop j l
 pub few-pairs : (a b : Automaton) (ca cb : List ℕ) → Holds a ca → Holds b cb → a .states * b .states ≤ 16777216
 few-pairs a b ca cb h k = mul-le-mul (h .few) (k .few)
 
-module _ (a b : Table) (cells flags : List ℕ) (room n : ℕ) (room-is : room ≡ lesserOf (length cells / 32) (length flags))
-    (n-is : n ≡ lesserOf (a .header .states * b .header .states) room) where
+module _ (a b : Table) (cells flags : List ℕ) (lent room n : ℕ) (lent-is : lent ≡ lesserOf (length cells / 32) (length flags))
+    (room-is : room ≡ lesserOf lent 1024) (n-is : n ≡ lesserOf (a .header .states * b .header .states) room) where
   n-lent : n ≡ lentPairs a b (roomOf (length cells) (length flags))
-  n-lent = n-is ∙ ap (lesserOf (a .header .states * b .header .states)) room-is
+  n-lent = n-is ∙ ap (lesserOf (a .header .states * b .header .states)) (room-is ∙ ap (λ k. lesserOf k 1024) lent-is)
+
+  small : (n ≤ length flags) × (n ≤ length cells / 32)
+  small =
+      let x = lesser-le (length cells / 32) (length flags) in
+      let y = lesser-le lent 1024 in
+      let z = lesser-le (a .header .states * b .header .states) room in
+      let f : n ≤ length flags = omega (arith, n-is, room-is, lent-is, x, y, z) in
+      let g : n ≤ length cells / 32 = omega (arith, n-is, room-is, lent-is, x, y, z) in
+      (f, g)
 
   pub lent-flags : n ≤ length flags
-  lent-flags = omega (arith, n-is, room-is, lesser-le (a .header .states * b .header .states) room, lesser-le (length cells / 32) (length flags))
+  lent-flags = small .0
 
   pub lent-cells : n * 32 ≤ length cells
-  lent-cells = omega (arith, n-is, room-is, lesser-le (a .header .states * b .header .states) room, lesser-le (length cells / 32) (length flags))
+  lent-cells = omega (arith, small .1)
 
   size-cells : length (take (n * 32) cells) ≡ n * 32
   size-cells = length-take-le (n * 32) cells lent-cells
@@ -95,15 +106,15 @@ module _ (a b : Table) (cells flags : List ℕ) (room n : ℕ) (room-is : room �
   }
 
 -- The same with the parts as code lends them.
-pub made-of-parts : (m p : List ℕ) (a b : Automaton) (ca cb cells flags : List ℕ) (room n : ℕ) → room ≡ lesserOf (length cells / 32) (length flags)
-    → n ≡ lesserOf (a .states * b .states) room → (u v i j : ℕ) → u ≡ a .states * 32 → v ≡ b .states * 32 → i ≡ n * 32 → j ≡ n
+pub made-of-parts : (m p : List ℕ) (a b : Automaton) (ca cb cells flags : List ℕ) (lent room n : ℕ) → lent ≡ lesserOf (length cells / 32) (length flags)
+    → room ≡ lesserOf lent 1024 → n ≡ lesserOf (a .states * b .states) room → (u v i j : ℕ) → u ≡ a .states * 32 → v ≡ b .states * 32 → i ≡ n * 32 → j ≡ n
     → (out : List ℕ) (e : ℕ) (cells′ flags′ out′ : List ℕ)
     → (InOrder (controller (table a (take u ca)) (table b (take v cb))) (pairsText m p (table a (take u ca)) (table b (take v cb)) (length (take i cells)) (length (take j flags))) out e out′)
     × ((cells′ ≡ synthesisCells (table a (take u ca)) (table b (take v cb)) (take i cells) (length (take j flags)))
     × (flags′ ≡ synthesisFlags (table a (take u ca)) (table b (take v cb)) (length (take i cells)) (take j flags)))
     → Makes m p (table a (take (a .states * 32) ca)) (table b (take (b .states * 32) cb)) cells flags out e (cells′ ++ drop i cells) (flags′ ++ drop j flags) out′
-made-of-parts m p a b ca cb cells flags room n room-is n-is u v i j eu ev ei ej out e cells′ flags′ out′ w =
-    rw (← eu, ← ev) (made-in (table a (take u ca)) (table b (take v cb)) cells flags room n room-is n-is m p i j ei ej out e cells′ flags′ out′ w)
+made-of-parts m p a b ca cb cells flags lent room n lent-is room-is n-is u v i j eu ev ei ej out e cells′ flags′ out′ w =
+    rw (← eu, ← ev) (made-in (table a (take u ca)) (table b (take v cb)) cells flags lent room n lent-is room-is n-is m p i j ei ej out e cells′ flags′ out′ w)
 
 -- ---- what was read
 
@@ -197,3 +208,20 @@ module _ (c c′ : ℕ) (m p cm cp : List ℕ) (k : Together) (replied : k ≡ t
 
       pub flags-made : flags′ ≡ flagsLeft (length cells) flags j
       flags-made = rw (given .are) (made .flags-left)
+
+-- ---- the program: 24 for the first unreadable file, else the report of what was read
+
+module _ (first second : File) (m p cm cp cells flags out : List ℕ) (e : ℕ) (out′ : List ℕ) where
+  unread : (file : ℕ) → Puts out 0 (refusalText file 24 0) e out′ → Unread file cm cp cells flags out e cm cp cells flags out′
+  unread file (u, v) = record { text = v; ends = u; module-kept = refl; plan-kept = refl; cells-kept = refl; flags-kept = refl }
+
+  pub first-unread : first ≡ Unreadable → Puts out 0 (refusalText 1 24 0) e out′ → Ran first second m p cm cp cells flags out e cm cp cells flags out′
+  first-unread a w = rw a (unread 1 w)
+
+  pub second-unread : (i : ℕ) → first ≡ Bytes i → second ≡ Unreadable → Puts out 0 (refusalText 2 24 0) e out′
+      → Ran first second m p cm cp cells flags out e cm cp cells flags out′
+  second-unread i a b w = rw (a, b) (unread 2 w)
+
+  pub both-read : (i k : ℕ) → first ≡ Bytes i → second ≡ Bytes k → (m′ p′ : List ℕ) → m′ ≡ take i m → p′ ≡ take k p → (cm′ cp′ cells′ flags′ : List ℕ)
+      → Told m′ p′ cm cp cells flags out e cm′ cp′ cells′ flags′ out′ → Ran first second m p cm cp cells flags out e cm′ cp′ cells′ flags′ out′
+  both-read i k a b m′ p′ em ep cm′ cp′ cells′ flags′ t = rw (a, b, ← em, ← ep) t

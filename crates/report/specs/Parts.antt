@@ -3,7 +3,6 @@ use mathlib.Core.Path.{_≡_}
 use mathlib.Core.Bool.{Bool, true, false, cond}
 use mathlib.Core.List.{List, [], _∷_}
 use Prim.Native.Nat.{ℕ, _*_, _≤_}
-use lib.Dec.{leb}
 use lib.ListN.{length}
 use Rattle.theory.specs.declared.Automaton.{Automaton}
 use Rattle.theory.specs.Table.{Table, table, synthesis, controller, keptCount, stepCount, endCount}
@@ -14,9 +13,6 @@ use Rattle.counts.specs.Cells.{stepsIn, endsIn}
 use Rattle.synthesis.specs.declared.Synthesis.{Synthesis}
 use Rattle.synthesis.specs.declared.Synthesis.the-variants as made
 use Rattle.report.specs.Report.{verdictWord, yesWord, noneWord, refusalText, figures, withText, madeText, roomOf, cellsMade, flagsMade}
-
-abbrev pub lesserOf : ℕ → ℕ → ℕ
-lesserOf a b = cond (leb a b) a b
 
 -- The first of the six lines.
 abbrev pub verdictText : Bool → List ℕ

@@ -1,4 +1,4 @@
--- What the bench program prints for two texts (01, "The program and one full run"). m is the module's text, p the plan's.
+-- What the bench program prints for two files or two texts (01, "The program and one full run"). m is the module's text, p the plan's.
 use mathlib.Core.Path.{_≡_}
 use mathlib.Core.Bool.{Bool, cond}
 use mathlib.Core.List.{List, [], _∷_, _++_}
@@ -9,10 +9,12 @@ use Rattle.theory.specs.declared.Automaton.{Automaton}
 use Rattle.theory.specs.Bounded.{tabulate}
 use Rattle.theory.specs.Table.{Table, table, synthesis, controller, keptCount, stepCount, endCount}
 use Rattle.theory.specs.Checks.{first, unlessRefused, synthesisChecks}
-use Rattle.text.specs.Reading.{Reading, Joint, both, neither, readBoth}
+use Rattle.text.specs.Reading.{Reading, Joint, both, neither, readBoth, cellsFirst, cellsSecond}
 use Rattle.text.specs.Writing.{decimal, printed, textWith, Order, writerChecks}
 use Rattle.text.specs.Lookup.{lookup}
 use Rattle.emit.specs.Buffer.{stored, after}
+use Rattle.files.specs.declared.File.{File}
+use Rattle.files.specs.declared.File.the-variants.{Bytes, Unreadable}
 
 -- ---- lines
 
@@ -76,9 +78,12 @@ signalNames m p = tabulate (λ a. lookup m p a .name) 0 32
 abbrev pub tableRead : Reading → Table
 tableRead r = table (r .header) (take (r .header .states * 32) (r .cells))
 
+abbrev pub lesserOf : ℕ → ℕ → ℕ
+lesserOf a b = cond (leb a b) a b
+
 -- The maker is given buffers of so many pairs: as many as there are, or as there is room for. More get 10, after 8 and 9.
 abbrev pub lentPairs : Table → Table → ℕ → ℕ
-lentPairs a b room = let n = a .header .states * b .header .states in cond (leb n room) n room
+lentPairs a b room = lesserOf (a .header .states * b .header .states) room
 
 module _ (order : ℕ → List ℕ) (m p : List ℕ) where
   -- With yes the text of table `sequencer`, made in 65,536 bytes before anything is printed, follows the six lines.
@@ -103,9 +108,10 @@ module _ (order : ℕ → List ℕ) (m p : List ℕ) where
   unfoldable pub reportWith : ℕ → ℕ → ℕ → List ℕ
   reportWith cells cells′ pairs = jointText pairs (readBoth cells m cells′ p)
 
--- The room for a result: cells for so many pairs, and a flag for each.
+-- The room for a result: cells for so many pairs, and a flag for each. More than 1,024 pairs get 10, however much is lent; so every figure has
+-- five digits at most, and `decimal` is its decimal (proofs/Meaning.antt).
 abbrev pub roomOf : ℕ → ℕ → ℕ
-roomOf cells flags = cond (leb (cells / 32) flags) (cells / 32) flags
+roomOf cells flags = lesserOf (lesserOf (cells / 32) flags) 1024
 
 -- The table whose text is printed; the order of its steps within a state is what 01 leaves open.
 abbrev pub printedTable : Joint → Table
@@ -139,3 +145,28 @@ cellsLeft cells flags (neither r) = cells
 abbrev pub flagsLeft : ℕ → List ℕ → Joint → List ℕ
 flagsLeft cells flags (both x y) = flagsMade (tableRead x) (tableRead y) cells flags
 flagsLeft cells flags (neither r) = flags
+
+-- ---- the program: what came of the two files, and what a call leaves in the lent buffers, cm and cp the cells of module and plan
+
+-- A file that cannot be read: one line with 24, and nothing else is touched.
+pub record Unread (file : ℕ) (cm cp cells flags bytes : List ℕ) (end : ℕ) (cm′ cp′ cells′ flags′ bytes′ : List ℕ) : Type 0 where
+  pub text : bytes′ ≡ stored bytes 0 (refusalText file 24 0)
+  pub ends : end ≡ after (length bytes) 0 (refusalText file 24 0)
+  pub module-kept : cm′ ≡ cm
+  pub plan-kept : cp′ ≡ cp
+  pub cells-kept : cells′ ≡ cells
+  pub flags-kept : flags′ ≡ flags
+
+-- Two texts: the report of them.
+pub record Told (m p cm cp cells flags bytes : List ℕ) (end : ℕ) (cm′ cp′ cells′ flags′ bytes′ : List ℕ) : Type 0 where
+  pub told : Reported m p (length cm) (length cp) (roomOf (length cells) (length flags)) bytes end bytes′
+  pub module-left : cm′ ≡ cellsFirst (length cm) (readBoth (length cm) m (length cp) p)
+  pub plan-left : cp′ ≡ cellsSecond (length cp) (readBoth (length cm) m (length cp) p)
+  pub cells-left : cells′ ≡ cellsLeft cells (length flags) (readBoth (length cm) m (length cp) p)
+  pub flags-left : flags′ ≡ flagsLeft (length cells) flags (readBoth (length cm) m (length cp) p)
+
+-- 24 for the first unreadable one before any text check. Of a file that was read, the text is as many of the lent bytes as were read.
+abbrev pub Ran : File → File → (m p cm cp cells flags bytes : List ℕ) (end : ℕ) (cm′ cp′ cells′ flags′ bytes′ : List ℕ) → Type 0
+Ran Unreadable second m p = Unread 1
+Ran (Bytes i) Unreadable m p = Unread 2
+Ran (Bytes i) (Bytes j) m p = Told (take i m) (take j p)

@@ -1,4 +1,4 @@
-// All that the bench program prints for two readable files (document 01, "The program and one full run"), made in a lent buffer.
+// All that the bench program prints (document 01, "The program and one full run"), made in a lent buffer.
 ghost use mathlib.Core.Path.{_≡_};
 ghost use mathlib.Core.Bool.{true};
 ghost use Prim.Native.Nat.{_*_, _≤_};
@@ -9,8 +9,9 @@ ghost use Rattle.text.specs.Writing.{Written};
 ghost use Rattle.emit.specs.Buffer.{after, stored};
 ghost use Rattle.writer.specs.Replies.{writerReply};
 ghost use Rattle.synthesis.specs.Replies.{synthesisCells, synthesisFlags};
-ghost use Rattle.report.specs.Report.{sequencerWord, signalNames, roomOf, Reported, cellsLeft, flagsLeft};
-ghost use Rattle.report.specs.Parts.{lesserOf, sixOf, InOrder, WithText, tableTold, toldText, pairsText, Holds, Makes};
+ghost use Rattle.report.specs.Report.{sequencerWord, signalNames, lesserOf, roomOf, Reported, cellsLeft, flagsLeft, Ran};
+ghost use Rattle.report.specs.Parts.{sixOf, InOrder, WithText, tableTold, toldText, pairsText, Holds, Makes};
+use files::File;
 use reader::Together;
 use synthesis::Synthesis;
 use theory::Automaton;
@@ -18,7 +19,7 @@ use writer::Printed;
 
 mod lines;
 
-pub use lines::refusal_line;
+use lines::refusal_line;
 
 // The text of table `sequencer`, with the names that the two texts gave the signals.
 fn write_text<'a>(
@@ -182,7 +183,8 @@ fn lesser(a: usize, b: usize) -> usize
     b
 }
 
-// The same, where the cells of the two tables may stand in longer buffers. The maker is lent as many pairs as there are, or as there is room for.
+// The same, where the cells of the two tables may stand in longer buffers. The maker is lent as many pairs as there are, or as there is room for:
+// 1,024 at most, whatever is lent here.
 fn make_in<'a>(
     m: &'a [u8],
     p: &'a [u8],
@@ -198,7 +200,8 @@ fn make_in<'a>(
     requires { ⌜ Holds b (now cb) ⌝ }
     ensures { λ r. ⌜ Makes (now (m .entry)) (now (p .entry)) (table a (take (a .states * 32) (now (ca .entry)))) (table b (take (b .states * 32) (now (cb .entry)))) (now (cells .entry)) (now (flags .entry)) (now (out .entry)) r (now (cells .exit)) (now (flags .exit)) (now (out .exit)) ⌝ }
 {
-    let room = lesser(cells.len() / 32, flags.len());
+    let lent = lesser(cells.len() / 32, flags.len());
+    let room = lesser(lent, 1024);
     let n = lesser(a.states * b.states, room);
     let ends = n * 32;
     let ea = a.states * 32;
@@ -242,4 +245,30 @@ pub fn report<'a>(
             specification,
         } => make_in(m, p, component, cm, specification, cp, cells, flags, out),
     }
+}
+
+// The program, by what came of its two files: 24 for the first unreadable one, else the report. Each text stands at the start of its buffer.
+pub fn program<'a>(
+    first: File,
+    second: File,
+    m: &'a [u8],
+    p: &'a [u8],
+    cm: &mut [u16],
+    cp: &mut [u16],
+    cells: &mut [u16],
+    flags: &mut [u8],
+    out: &mut [u8],
+) -> usize
+    ensures { λ r. ⌜ Ran first second (now (m .entry)) (now (p .entry)) (now (cm .entry)) (now (cp .entry)) (now (cells .entry)) (now (flags .entry)) (now (out .entry)) r (now (cm .exit)) (now (cp .exit)) (now (cells .exit)) (now (flags .exit)) (now (out .exit)) ⌝ }
+    ensures { λ r. ⌜ r ≤ 65608 ⌝ }
+{
+    let File::Bytes(i) = first else {
+        return refusal_line(out, 0, 1, 24, 0);
+    };
+    let File::Bytes(j) = second else {
+        return refusal_line(out, 0, 2, 24, 0);
+    };
+    let module = scan::before(m, i);
+    let plan = scan::before(p, j);
+    report(module, plan, cm, cp, cells, flags, out)
 }

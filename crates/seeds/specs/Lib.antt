@@ -1,2 +1,1 @@
 pub mod Seeds
-pub mod Rows

@@ -15,18 +15,21 @@ use Rattle.report.proofs.make.Reads as make-reads
 lesser-requires : tie.Need-lesser-requires
 lesser-requires c κs = search needs
 
-mul-lesser : tie.Need-mul-lesser
-mul-lesser c =
-    let s = c .before .before .before .before .before .before .before .before .before .before in
-    omega (arith, few-pairs (s .args .a) (s .args .b) _ _ (s .pre .0) (s .pre .1))
-
 lesser-requires-2 : tie.Need-lesser-requires-2
 lesser-requires-2 c κs = search needs
 
+mul-lesser : tie.Need-mul-lesser
+mul-lesser c =
+    let s = c .before .before .before .before .before .before .before .before .before .before .before in
+    omega (arith, few-pairs (s .args .a) (s .args .b) _ _ (s .pre .0) (s .pre .1))
+
+lesser-requires-3 : tie.Need-lesser-requires-3
+lesser-requires-3 c κs = search needs
+
 mul-ends : tie.Need-mul-ends
 mul-ends c =
-    let s = c .before .before .before .before .before .before .before .before .before .before .before in
-    omega (arith, lent-cells (table (s .args .a) []) (table (s .args .b) []) (now (s .args .cells)) (now (s .args .flags)) _ _ (c .before .before .before .lesser .ensures) (c .lesser2 .ensures))
+    let s = c .before .before .before .before .before .before .before .before .before .before .before .before in
+    omega (arith, lent-cells (table (s .args .a) []) (table (s .args .b) []) (now (s .args .cells)) (now (s .args .flags)) _ _ _ (c .before .before .before .before .lesser .ensures) (c .before .before .before .lesser2 .ensures) (c .lesser3 .ensures))
 
 mul-ea : tie.Need-mul-ea
 mul-ea c = search needs
@@ -60,8 +63,8 @@ part-make-start-3 c = search needs
 
 part-make-end-3 : tie.Need-part-make-end-3
 part-make-end-3 c =
-    let s = c .before .before .before .before .before .before .before .before .before .before .before .before .before .before .before in
-    lent-cells (table (s .args .a) []) (table (s .args .b) []) (now (s .args .cells)) (now (s .args .flags)) _ _ (c .before .before .before .before .before .before .before .lesser .ensures) (c .before .before .before .before .lesser2 .ensures)
+    let s = c .before .before .before .before .before .before .before .before .before .before .before .before .before .before .before .before in
+    lent-cells (table (s .args .a) []) (table (s .args .b) []) (now (s .args .cells)) (now (s .args .flags)) _ _ _ (c .before .before .before .before .before .before .before .before .lesser .ensures) (c .before .before .before .before .before .before .before .lesser2 .ensures) (c .before .before .before .before .lesser3 .ensures)
 
 sub-make-4 : tie.Need-sub-make-4
 sub-make-4 c = search needs
@@ -71,8 +74,8 @@ part-make-start-4 c = search needs
 
 part-make-end-4 : tie.Need-part-make-end-4
 part-make-end-4 c =
-    let s = c .before .before .before .before .before .before .before .before .before .before .before .before .before .before .before .before in
-    lent-flags (table (s .args .a) []) (table (s .args .b) []) (now (s .args .cells)) (now (s .args .flags)) _ _ (c .before .before .before .before .before .before .before .before .lesser .ensures) (c .before .before .before .before .before .lesser2 .ensures)
+    let s = c .before .before .before .before .before .before .before .before .before .before .before .before .before .before .before .before .before in
+    lent-flags (table (s .args .a) []) (table (s .args .b) []) (now (s .args .cells)) (now (s .args .flags)) _ _ _ (c .before .before .before .before .before .before .before .before .before .lesser .ensures) (c .before .before .before .before .before .before .before .before .lesser2 .ensures) (c .before .before .before .before .before .lesser3 .ensures)
 
 make-requires : tie.Need-make-requires
 make-requires c κs = search needs
@@ -90,17 +93,18 @@ returns : tie.Need-returns
 returns c =
     let f = c .before .before .before .before .before .before in
     let l = f .before .before .before .before .before .before .before .before in
-    let s = l .before .before .before .before .before .before .before .before .before .before .before in
-    made-of-parts _ _ (s .args .a) (s .args .b) (now (s .args .ca)) (now (s .args .cb)) (now (s .args .cells)) (now (s .args .flags)) _ _ (l .before .before .before .lesser .ensures)
-    (l .lesser2 .ensures) (s .args .a .states * 32 - 0) (s .args .b .states * 32 - 0) (l .lesser2 .result * 32 - 0) (l .lesser2 .result - 0) (omega arith) (omega arith) (omega arith) (omega arith) _ _ _ _ _ (f .make .ensures)
+    let s = l .before .before .before .before .before .before .before .before .before .before .before .before in
+    made-of-parts _ _ (s .args .a) (s .args .b) (now (s .args .ca)) (now (s .args .cb)) (now (s .args .cells)) (now (s .args .flags)) _ _ _ (l .before .before .before .before .lesser .ensures)
+    (l .before .before .before .lesser2 .ensures) (l .lesser3 .ensures) (s .args .a .states * 32 - 0) (s .args .b .states * 32 - 0) (l .lesser3 .result * 32 - 0) (l .lesser3 .result - 0) (omega arith) (omega arith) (omega arith) (omega arith) _ _ _ _ _ (f .make .ensures)
 
 pub make-in-spec : {M : Type 1} → statement M
 make-in-spec =
     tie.close
     (tie.spec
     lesser-requires
-    mul-lesser
     lesser-requires-2
+    mul-lesser
+    lesser-requires-3
     mul-ends
     mul-ea
     mul-eb

@@ -1,0 +1,3 @@
+pub mod Conds
+pub mod Links
+pub mod Pairs
