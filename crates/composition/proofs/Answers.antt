@@ -13,13 +13,13 @@ use Rattle.theory.specs.Numbered.{pair}
 use Rattle.theory.specs.Table.{Table, composition, productHeader}
 use Rattle.closure.specs.Kernel.{encoded}
 use Rattle.pairs.specs.declared.Question.{Question}
-use Rattle.pairs.specs.Search.{pairCount, pairRanks, rankedPairs, pairRounds, rankedPairsIn, productIn, pairRoundsIn, flagged}
+use Rattle.pairs.specs.Search.{pairCount, pairRanks, rankedPairs, pairRounds, flagged}
 use Rattle.pairs.specs.Ready.{Ready}
-use Rattle.pairs.proofs.Answers.{ranked-all, rounds-all, ranked-all-in, rounds-all-in, product-in, flags-are, verdict-is, start-below}
+use Rattle.pairs.proofs.Answers.{ranked-all, rounds-all, flags-are, verdict-is, start-below}
 use Rattle.composition.specs.declared.Compatibility.the-variants as compatibility
 use Rattle.composition.specs.declared.Composition.the-variants as composed
 use Rattle.composition.specs.Replies.{compatibilityQuestion, Bounded}
-use Rattle.composition.specs.Restricted.{cutCells}
+use Rattle.product.specs.Kept.{keptFilled}
 use Rattle.composition.proofs.Cells.{composition-cells}
 use Rattle.composition.proofs.Laws.{ranks-are}
 
@@ -44,13 +44,6 @@ module _ (p q : Table) (n : ℕ) (r : Ready p q n) where
 
     pub rounds-alone : (c : ℕ) → c ≡ pairRounds g′ p q (length ranks) → c ≡ composition p q .rounds
     rounds-alone c e = e ∙ rw asked (rounds-all g p q n r ranks long) ∙ rounds-are
-
-    module _ (cells : List ℕ) (wide : length cells ≡ n * 32) where
-      pub ranked-lent : rankedPairsIn g′ p q ranks (length cells) ≡ codes
-      ranked-lent = rw asked (ranked-all-in g p q n r ranks long cells wide)
-
-      pub rounds-lent : (c : ℕ) → c ≡ pairRoundsIn g′ p q (length ranks) (length cells) → c ≡ composition p q .rounds
-      rounds-lent c e = e ∙ rw asked (rounds-all-in g p q n r ranks long cells wide) ∙ rounds-are
 
   module _ (flags : List ℕ) (long : length flags ≡ n) where
     pub flags-composed : flagged codes flags ≡ composition p q .flags
@@ -82,28 +75,20 @@ module _ (p q : Table) (g : Question) (ranks ranks′ flags flags′ : List ℕ)
       (told ∙ ap (λ l. eqb (getD l (h .initial) 0) 1) flags-now ∙ verdict-composed p q (length flags) r flags refl h headed)
       (rounds-alone p q (length flags) r g asked ranks long c counted)
 
--- ---- compose, in lent cells
+-- ---- compose: the same, and the cells
 
 module _ (p q : Table) (g : Question) (ranks ranks′ cells flags flags′ : List ℕ) (r : Ready p q (length flags)) (long : length ranks ≡ length flags)
     (wide : length cells ≡ length flags * 32) (asked : g ≡ compatibilityQuestion (p .header) (q .header))
-    (ranked : ranks′ ≡ rankedPairsIn g p q ranks (length cells)) (written : flags′ ≡ flagged ranks′ flags) where
-  flags-then : flags′ ≡ flagged (codes p q (length flags) r) flags
-  flags-then = written ∙ ap (λ l. flagged l flags) (ranked ∙ ranked-lent p q (length flags) r g asked ranks long cells wide)
-
-  pub join-flags : flags′ ≡ composition p q .flags
-  join-flags = flags-then ∙ flags-composed p q (length flags) r flags refl
-
-  pub join-reply : (h : Automaton) (b : Bool) (c : ℕ) → c ≡ pairRoundsIn g p q (length ranks) (length cells) → h ≡ productHeader (p .header) (q .header)
+    (ranked : ranks′ ≡ rankedPairs g p q ranks) (written : flags′ ≡ flagged ranks′ flags) where
+  pub join-reply : (h : Automaton) (b : Bool) (c : ℕ) → c ≡ pairRounds g p q (length ranks) → h ≡ productHeader (p .header) (q .header)
       → b ≡ eqb (getD flags′ (h .initial) 0) 1
       → composed.Decided b h c ≡ composed.Decided (composition p q .compatible) (composition p q .header) (composition p q .rounds)
   unfolding composition
   join-reply h b c counted headed told =
-      rw (told ∙ ap (λ l. eqb (getD l (h .initial) 0) 1) flags-then ∙ verdict-composed p q (length flags) r flags refl h headed, rounds-lent p q (length flags) r g asked ranks long cells wide c counted, headed) refl
+      rw (told ∙ ap (λ l. eqb (getD l (h .initial) 0) 1) (flags-now p q g ranks ranks′ flags flags′ r long asked ranked written) ∙ verdict-composed p q (length flags) r flags refl h headed, rounds-alone p q (length flags) r g asked ranks long c counted, headed) refl
 
-  -- The product, cut down to the kept pairs.
-  pub join-cells : (cells₁ cells₂ : List ℕ) → cells₁ ≡ productIn p q (length ranks) cells → cells₂ ≡ cutCells ranks′ cells₁ → cells₂ ≡ composition p q .cells
-  join-cells cells₁ cells₂ e f =
-      f
-      ∙ ap₂ cutCells (ranked ∙ ranked-lent p q (length flags) r g asked ranks long cells wide ∙ ap (encoded (pairCount p q)) (ranks-are p q))
-      (e ∙ product-in g p q (length flags) r ranks long cells wide)
-      ∙ composition-cells p q (r .first) (r .second) (r .few)
+  pub join-cells : (cells′ : List ℕ) → cells′ ≡ keptFilled ranks′ p q cells → cells′ ≡ composition p q .cells
+  join-cells cells′ e =
+      e
+      ∙ ap (λ l. keptFilled l p q cells) (ranked ∙ ranked-alone p q (length flags) r g asked ranks long ∙ ap (encoded (pairCount p q)) (ranks-are p q))
+      ∙ composition-cells p q (length flags) r cells wide
