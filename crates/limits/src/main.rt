@@ -1,16 +1,11 @@
 // Program test of the limits: which sizes and numbers the calls take and which they refuse, by document 01's numbers (0: accepted).
 // What it writes is held to the file stdout.
-ghost use mathlib.Core.Path.{_≡_};
-ghost use Prim.Native.Nat.{_*_, _≤_};
-ghost use lib.ListN.{length};
+ghost use Prim.Native.Nat.{_≤_};
 ghost use Rattle.limits.specs.Room.{Room};
 use automaton::Followed;
-use composition::Built;
 use composition::Compatibility;
-use composition::Composition;
 use libc::STDOUT_FILENO;
 use reader::Alone;
-use refinement::Refined;
 use theory::Automaton;
 use theory::Checked;
 
@@ -65,25 +60,7 @@ fn judge(call: &[u8], states: usize, cells: usize)
     }
 }
 
-// Two automata without steps, of n and m states with the right number of cells, and result buffers of so many cells or bytes.
-fn product(call: &[u8], n: usize, m: usize, cells: usize)
-    requires { ⌜ Room n m cells ⌝ }
-{
-    let one = [65535u16; 131072];
-    let two = [65535u16; 131072];
-    let mut result = [7u16; 133120];
-    match composition::product(
-        of_states(n),
-        &one[0..n * 32],
-        counterpart(m),
-        &two[0..m * 32],
-        &mut result[0..cells],
-    ) {
-        Built::Product(_) => report(call, 0),
-        Built::Refused(r) => report(call, r.number),
-    }
-}
-
+// Two automata without steps, of n and m states with the right number of cells, and so many flags.
 fn fit(call: &[u8], n: usize, m: usize, bytes: usize)
     requires { ⌜ Room n m bytes ⌝ }
 {
@@ -99,117 +76,6 @@ fn fit(call: &[u8], n: usize, m: usize, bytes: usize)
     ) {
         Compatibility::Decided { .. } => report(call, 0),
         Compatibility::Refused(r) => report(call, r.number),
-    }
-}
-
-fn compose(call: &[u8], n: usize, m: usize, bytes: usize)
-    requires { ⌜ Room n m (bytes * 32) ⌝ }
-{
-    let one = [65535u16; 131072];
-    let two = [65535u16; 131072];
-    let mut result = [7u16; 133120];
-    let mut flags = [7u8; 4160];
-    match composition::compose(
-        of_states(n),
-        &one[0..n * 32],
-        counterpart(m),
-        &two[0..m * 32],
-        &mut result[0..bytes * 32],
-        &mut flags[0..bytes],
-    ) {
-        Composition::Decided { .. } => report(call, 0),
-        Composition::Refused(r) => report(call, r.number),
-    }
-}
-
-fn refine(call: &[u8], n: usize, m: usize, bytes: usize)
-    requires { ⌜ Room n m bytes ⌝ }
-{
-    let one = [65535u16; 131072];
-    let two = [65535u16; 131072];
-    let mut marks = [7u8; 133120];
-    match refinement::refine(
-        of_states(n),
-        &one[0..n * 32],
-        of_states(m),
-        &two[0..m * 32],
-        &mut marks[0..bytes],
-    ) {
-        Refined::Decided(_) => report(call, 0),
-        Refined::Refused(r) => report(call, r.number),
-    }
-}
-
-// Writes 4,096 states in a row by signal 0; the last has a step by signal 1 as well.
-fn chain(cells: &mut [u16])
-    requires { ⌜ length (now cells) ≡ 131072 ⌝ }
-{
-    for k in 0..4095 {
-        cells[k * 32] = (k + 1) as u16;
-    }
-    cells[131041] = 0;
-}
-
-// A verdict, and how many bytes are 1.
-fn verdict(call: &[u8], yes: bool, bytes: &[u8]) {
-    say(call);
-    if yes {
-        say(b": yes");
-    } else {
-        say(b": no");
-    }
-    say_number(b", kept ", counts::count_kept(bytes) as u64);
-}
-
-// The deepest search: the chain sends signal 0 on and on, and at its end signal 1, which its partner declares and never takes.
-fn fit_chain() {
-    let mut one = [65535u16; 131072];
-    let two = [65535u16; 32];
-    let mut flags = [7u8; 4096];
-    chain(&mut one);
-    let sender = Automaton {
-        states: 4096,
-        initial: 0,
-        inputs: 0,
-        outputs: 3,
-    };
-    let taker = Automaton {
-        states: 1,
-        initial: 0,
-        inputs: 2,
-        outputs: 0,
-    };
-    match composition::compatible(sender, &one, taker, &two, &mut flags) {
-        Compatibility::Decided { compatible, rounds } => {
-            verdict(b"fit a chain", compatible, &flags);
-            say_number(b"fit a chain: rounds ", rounds as u64);
-        }
-        Compatibility::Refused(r) => report(b"fit a chain", r.number),
-    }
-}
-
-// The same for refinement: the partner may send signal 0 for ever and signal 1 never.
-fn refine_chain() {
-    let mut one = [65535u16; 131072];
-    let mut two = [65535u16; 32];
-    let mut marks = [7u8; 4096];
-    chain(&mut one);
-    two[0] = 0;
-    let sender = Automaton {
-        states: 4096,
-        initial: 0,
-        inputs: 0,
-        outputs: 3,
-    };
-    let pattern = Automaton {
-        states: 1,
-        initial: 0,
-        inputs: 0,
-        outputs: 3,
-    };
-    match refinement::refine(sender, &one, pattern, &two, &mut marks) {
-        Refined::Decided(yes) => verdict(b"refine a chain", yes, &marks),
-        Refined::Refused(r) => report(b"refine a chain", r.number),
     }
 }
 
@@ -246,21 +112,11 @@ fn main() {
     judge(b"judge 4097 states", 4097, 131104);
     judge(b"judge 2^59 + 1 states, 32 cells", 576460752303423489, 32);
     judge(b"judge 2^64 - 1 states, no cell", 18446744073709551615, 0);
-    product(b"product 64 by 64", 64, 64, 131072);
-    product(b"product 64 by 65", 64, 65, 133120);
-    product(b"product 64 by 64, a cell over", 64, 64, 131073);
     fit(b"fit 64 by 64", 64, 64, 4096);
     fit(b"fit 64 by 65", 64, 65, 4160);
     fit(b"fit 4096 by 1", 4096, 1, 4096);
     fit(b"fit 4096 by 2", 4096, 2, 8192);
     fit(b"fit 64 by 64, a flag short", 64, 64, 4095);
-    compose(b"compose 64 by 64", 64, 64, 4096);
-    compose(b"compose 64 by 65", 64, 65, 4160);
-    refine(b"refine 64 by 64", 64, 64, 4096);
-    refine(b"refine 64 by 65", 64, 65, 4160);
-    refine(b"refine 64 by 64, a mark over", 64, 64, 4097);
-    fit_chain();
-    refine_chain();
     follow(b"follow signal 31", 31);
     follow(b"follow signal 0", 0);
     follow(b"follow signal 30, not declared", 30);
