@@ -2,6 +2,10 @@
 //! program with it. The rules are in `table` to `synth`, the calls with their refusals in `calls`, `text`, `writer` and `program`; what is tried
 //! comes from `random_tables` and `random_texts`; the archives stand behind `archive`.
 //!
+//! Where document 01 is silent the reference follows docs/DECISIONS.md or the library, and says nothing on its own: the table that a refusal of a call
+//! on one table and of the writer names; a missing entry of the writer's names; what counts as a step in cells that no check has seen; how
+//! `count_ends` takes cells that are no whole rows; 10 where `report` is lent less than the program lends.
+//!
 //!     reference selftest CASES                               the reference alone, on folders of expected output
 //!     reference tables SEED COUNT [CASE]                     the calls on tables
 //!     reference texts SEED COUNT [CASE]                      reading, lookup, writing, report
