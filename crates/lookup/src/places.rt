@@ -38,11 +38,12 @@ fn place_of<'a>(m: &'a [u8], p: &'a [u8], signals: Signals, signal: usize) -> Fo
 {
     let names = signals.names;
     let name = names[signal];
+    let from = name.from as usize;
     let bytes = signals::bytes_of(m, p, name);
     Found {
         number: 0,
         text: name.text,
-        from: name.from,
+        from,
         length: bytes.len(),
     }
 }

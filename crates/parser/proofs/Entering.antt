@@ -1,7 +1,7 @@
 -- The line from byte `at` to byte `end` of a text: what it says, and what it does to the reading.
 use mathlib.Core.Path.{_≡_, sym, ap, _∙_}
 use mathlib.Core.List.{List}
-use Prim.Native.Nat.{ℕ, _+_, _-_, _≤_}
+use Prim.Native.Nat.{ℕ, _+_, _-_, _≤_, _<_}
 use native.Mathlib.Omega.{arith}
 use mir.Syntax.{w64}
 use mir.Val.{Fits}
@@ -18,6 +18,7 @@ use Rattle.line.specs.Located.{located}
 use Rattle.line.proofs.Meaning.{DeclarationReply, StepReply, table-reply, declaration-reply, step-reply, refused-reply}
 use Rattle.parser.specs.declared.State.{State}
 use Rattle.parser.specs.declared.entries.Advanced.{Advanced}
+use Rattle.signals.specs.declared.Name.{Name}
 use Rattle.signals.specs.Names.{textOf, nameAt}
 use Rattle.parser.specs.State.{halted, reading, Sound, Starts, Declares, Steps, numberIn, InText, Enters}
 use Rattle.parser.proofs.Lines.{part-rest, part-part}
@@ -66,10 +67,15 @@ module _ (m p : List ℕ) (text at end : ℕ) (inside : InText m p text at end) 
       pub declaration-fits : Fits w64 end → Fits w64 (at + start)
       declaration-fits h = fits-to end (at + start) h (omega (arith, declared .within, line-length, inside .from-to))
 
-      pub enter-declaration : (cells : List ℕ) (room : ℕ) → room ≡ length cells → (r : Advanced)
-          → Declares m p st role (record { text = text; from = at + start; to = end }) room r → Enters m p text at end st cells r cells
+      pub declaration-small : (at + start < 65536) × (end < 65536)
+      declaration-small =
+          (omega (arith, declared .within, line-length, inside .from-to, inside .below, inside .short), omega (arith, inside .below, inside .short))
+
+      pub enter-declaration : (name : Name) → name ≡ record { text = text; from = at + start; to = end } → (cells : List ℕ) (room : ℕ)
+          → room ≡ length cells → (r : Advanced) → Declares m p st role name room r → Enters m p text at end st cells r cells
       unfolding entered
-      enter-declaration cells room g r d =
+      enter-declaration n e cells room g r d₀ =
+          let d : Declares m p st role (record { text = text; from = at + start; to = end }) room r = rw e at d₀ in
           let name : nameAt m p (record { text = text; from = at + start; to = end }) ≡ drop (length (roleWord role) + 1) line =
           sym (ap (drop (length (roleWord role) + 1)) the-line ∙ part-rest bytes at end (length (roleWord role) + 1) ∙ rw begins) in
           let from : at + start ≡ at + length (roleWord role) + 1 = omega arith in
@@ -88,10 +94,15 @@ module _ (m p : List ℕ) (text at end : ℕ) (inside : InText m p text at end) 
       pub step-stop-fits : Fits w64 end → Fits w64 (at + stop)
       step-stop-fits h = fits-to end (at + stop) h (omega (arith, stepped .within, line-length, inside .from-to))
 
-      pub enter-step : (cells cells′ : List ℕ) (r : Advanced)
-          → Steps m p st cells from (record { text = text; from = at + start; to = at + stop }) to r cells′ → Enters m p text at end st cells r cells′
+      pub step-small : (at + start < 65536) × (at + stop < 65536)
+      step-small =
+          (omega (arith, stepped .in-order, stepped .within, line-length, inside .from-to, inside .below, inside .short), omega (arith, stepped .within, line-length, inside .from-to, inside .below, inside .short))
+
+      pub enter-step : (name : Name) → name ≡ record { text = text; from = at + start; to = at + stop } → (cells cells′ : List ℕ) (r : Advanced)
+          → Steps m p st cells from name to r cells′ → Enters m p text at end st cells r cells′
       unfolding entered
-      enter-step cells cells′ r d =
+      enter-step n e cells cells′ r d₀ =
+          let d : Steps m p st cells from (record { text = text; from = at + start; to = at + stop }) to r cells′ = rw e at d₀ in
           let name : nameAt m p (record { text = text; from = at + start; to = at + stop }) ≡ take (stop - start) (drop start line) =
           sym (ap (λ l. take (stop - start) (drop start l)) the-line ∙ part-part bytes at end start stop (stepped .in-order) (omega (arith, stepped .within, line-length))) in
           record {

@@ -25,8 +25,11 @@ pub fresh-sound : (s : Signals) (st : State) (cells : List ℕ) → st ≡ fresh
 fresh-sound s st cells e b = rw e (record { fit = b .fit; small = omega arith; wide = omega arith })
 
 -- A line stands in its text.
-pub in-text : (m p t : List ℕ) (text at end : ℕ) → t ≡ textOf m p text → at ≤ end → end < length t → InText m p text at end
-in-text m p t text at end e h k = record { from-to = h; below = rw e at k }
+pub in-text : (m p t : List ℕ) (text at end : ℕ) → t ≡ textOf m p text → length (textOf m p text) ≤ 65536 → at ≤ end → end < length t → InText m p text at end
+in-text m p t text at end e short h k = record { short = short; from-to = h; below = rw e at k }
+
+pub short-text : (t bytes : List ℕ) → t ≡ bytes → (65536 < length t → ⊥) → length bytes ≤ 65536
+short-text t bytes e h = let short : length t ≤ 65536 = omega (arith, h) in rw e at short
 
 -- ---- lines, one after the other: st₀ and cells₀ are the state and the cells before the first
 

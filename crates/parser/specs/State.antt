@@ -96,8 +96,9 @@ abbrev pub numberIn : Parsed → ℕ
 numberIn (Refused n) = n
 numberIn (Fields r) = 0
 
--- A line of a text, its LF not included.
+-- A line of a text of 65,536 bytes at most, its LF not included.
 pub record InText (m p : List ℕ) (text at end : ℕ) : Type 0 where
+  pub short : length (textOf m p text) ≤ 65536
   pub from-to : at ≤ end
   pub below : end < length (textOf m p text)
 

@@ -181,6 +181,18 @@ fn refusal_of(parsed: Parsed) -> u32
     }
 }
 
+// A part of a text as a name.
+fn named(text: u32, from: usize, to: usize) -> Name
+    requires { ⌜ (from < 65536) × (to < 65536) ⌝ }
+    ensures { λ r. ⌜ r ≡ record { text = text; from = from; to = to } ⌝ }
+{
+    Name {
+        text,
+        from: from as u16,
+        to: to as u16,
+    }
+}
+
 // The line from byte `at` to byte `end` of a text.
 pub fn enter<'a>(
     m: &'a [u8],
@@ -203,11 +215,7 @@ pub fn enter<'a>(
     match record {
         Record::Table { states, initial } => start(st, states, initial, cells.len()),
         Record::Declaration(role) => {
-            let name = Name {
-                text,
-                from: at + line::name_start(role),
-                to: end,
-            };
+            let name = named(text, at + line::name_start(role), end);
             declare(m, p, st, role, name, cells.len())
         }
         Record::Step {
@@ -216,11 +224,7 @@ pub fn enter<'a>(
             end,
             to,
         } => {
-            let name = Name {
-                text,
-                from: at + start,
-                to: at + end,
-            };
+            let name = named(text, at + start, at + end);
             step(m, p, st, cells, from, name, to)
         }
     }

@@ -1,7 +1,9 @@
 // The reading of a text, and of two.
 ghost use mathlib.Core.Path.{_≡_};
 ghost use mathlib.Core.Bool.{true};
+ghost use Prim.Native.Nat.{_≤_};
 ghost use lib.ListN.{length};
+ghost use Rattle.signals.specs.Names.{textOf};
 ghost use Rattle.parser.specs.State.{Fit, freshState, Blank, ReadsLines, Reads, ReadsOne, joined, ReadsBoth};
 use crate::Both;
 use crate::Signals;
@@ -44,6 +46,7 @@ fn refuse(number: u32, text: u32, line: usize, state: State) -> Told
 // The lines of a text, into blank cells. After the last LF nothing may stand (14).
 fn read_lines<'a>(m: &'a [u8], p: &'a [u8], text: u32, signals: Signals, cells: &mut [u16]) -> Told
     requires { ⌜ Blank signals (now cells) ⌝ }
+    requires { ⌜ length (textOf (now m) (now p) text) ≤ 65536 ⌝ }
     ensures { λ r. ⌜ ReadsLines (now (m .entry)) (now (p .entry)) text signals (length (now (cells .entry))) r (now (cells .exit)) ⌝ }
 {
     let bytes = signals::text_of(m, p, text);

@@ -10,6 +10,9 @@ mul-name c = search needs
 array-copy-out-name : tie.Need-array-copy-out-name
 array-copy-out-name c = search needs
 
+cast-from : tie.Need-cast-from
+cast-from c = search needs
+
 bytes-of-requires : tie.Need-bytes-of-requires
 bytes-of-requires c κs = search needs
 
@@ -17,4 +20,4 @@ returns : tie.Need-returns
 returns c = place-held _ _ _ _ (search needs) _ _ refl _ (c .bytes-of .ensures)
 
 pub place-of-spec : {M : Type 1} → statement M
-place-of-spec = tie.close (tie.spec mul-name array-copy-out-name bytes-of-requires returns)
+place-of-spec = tie.close (tie.spec mul-name array-copy-out-name cast-from bytes-of-requires returns)

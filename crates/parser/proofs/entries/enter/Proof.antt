@@ -1,5 +1,5 @@
 use mathlib.Core.Path.{refl}
-use Rattle.parser.proofs.Entering.{enter-refused, enter-table, declaration-fits, enter-declaration, step-start-fits, step-stop-fits, enter-step}
+use Rattle.parser.proofs.Entering.{enter-refused, enter-table, declaration-fits, declaration-small, enter-declaration, step-start-fits, step-stop-fits, step-small, enter-step}
 use borrow.Author.Needs.{needs}
 use Rattle.parser.proofs.entries.enter.Statement.{statement}
 use Rattle.parser.proofs.entries.enter.Tie as tie
@@ -42,8 +42,13 @@ enum-known-record-2 c = search needs
 name-start-requires : tie.Need-name-start-requires
 name-start-requires c κs = search needs
 
-add-t26 : tie.Need-add-t26
-add-t26 c = search (declaration-fits, needs)
+add-named : tie.Need-add-named
+add-named c = search (declaration-fits, needs)
+
+named-requires : tie.Need-named-requires
+named-requires c κs =
+    declaration-small _ _ _ _ _ (c .before .before .before .before .before .before .before .before .before .before .before .before .before .pre .1) (c .before .before .before .before .before .before .before .before .before .before .before .before .before .args .st) _ _ (c .before .before .before .before .before .before .before .before .before .text-of .ensures) (c .before .before .before .before .before .before .before .before .part .ensures) _ (c .before .before .before .before .before .before .before .parse .ensures)
+    _ (c .before .before .before .before .before .parsed .given .1) _ (c .before .before .record2 .given .1) _ (c .name-start .ensures)
 
 declare-requires : tie.Need-declare-requires
 declare-requires c κs = search needs
@@ -51,11 +56,16 @@ declare-requires c κs = search needs
 enum-known-record-3 : tie.Need-enum-known-record-3
 enum-known-record-3 c = search needs
 
-add-t27 : tie.Need-add-t27
-add-t27 c = search (step-start-fits, needs)
+add-named-2 : tie.Need-add-named-2
+add-named-2 c = search (step-start-fits, needs)
 
-add-t28 : tie.Need-add-t28
-add-t28 c = search (step-stop-fits, needs)
+add-named-3 : tie.Need-add-named-3
+add-named-3 c = search (step-stop-fits, needs)
+
+named-requires-2 : tie.Need-named-requires-2
+named-requires-2 c κs =
+    step-small _ _ _ _ _ (c .before .before .before .before .before .before .before .before .before .before .before .before .pre .1) (c .before .before .before .before .before .before .before .before .before .before .before .before .args .st) _ _ (c .before .before .before .before .before .before .before .before .text-of .ensures) (c .before .before .before .before .before .before .before .part .ensures) _ (c .before .before .before .before .before .before .parse .ensures)
+    _ (c .before .before .before .before .parsed .given .1) _ _ _ _ (c .before .record3 .given .1)
 
 step-requires : tie.Need-step-requires
 step-requires c κs = search needs
@@ -67,16 +77,16 @@ returns-2 c =
 
 returns-3 : tie.Need-returns-3
 returns-3 c =
-    enter-declaration _ _ _ _ _ (c .before .before .before .before .before .before .before .before .before .before .before .before .before .before .pre .1) _ _ _ (c .before .before .before .before .before .before .before .before .before .before .text-of .ensures) (c .before .before .before .before .before .before .before .before .before .part .ensures) _ (c .before .before .before .before .before .before .before .before .parse .ensures)
-    _ (c .before .before .before .before .before .before .parsed .given .1) _ (c .before .before .before .record2 .given .1) _ (c .before .name-start .ensures) _ _ refl _ (c .declare .ensures)
+    enter-declaration _ _ _ _ _ (c .before .before .before .before .before .before .before .before .before .before .before .before .before .before .before .pre .1) _ _ _ (c .before .before .before .before .before .before .before .before .before .before .before .text-of .ensures) (c .before .before .before .before .before .before .before .before .before .before .part .ensures) _ (c .before .before .before .before .before .before .before .before .before .parse .ensures)
+    _ (c .before .before .before .before .before .before .before .parsed .given .1) _ (c .before .before .before .before .record2 .given .1) _ (c .before .before .name-start .ensures) _ (c .before .named .ensures) _ _ refl _ (c .declare .ensures)
 
 same-length : tie.Need-same-length
 same-length c = search needs
 
 returns-4 : tie.Need-returns-4
 returns-4 c =
-    enter-step _ _ _ _ _ (c .before .before .before .before .before .before .before .before .before .before .before .before .before .before .before .before .pre .1) _ _ _ (c .before .before .before .before .before .before .before .before .before .before .before .before .text-of .ensures) (c .before .before .before .before .before .before .before .before .before .before .before .part .ensures) _ (c .before .before .before .before .before .before .before .before .before .before .parse .ensures)
-    _ (c .before .before .before .before .before .before .before .before .parsed .given .1) _ _ _ _ (c .before .before .before .before .before .record3 .given .1) _ _ _ (c .before .before .step .ensures)
+    enter-step _ _ _ _ _ (c .before .before .before .before .before .before .before .before .before .before .before .before .before .before .before .before .before .pre .1) _ _ _ (c .before .before .before .before .before .before .before .before .before .before .before .before .before .text-of .ensures) (c .before .before .before .before .before .before .before .before .before .before .before .before .part .ensures) _ (c .before .before .before .before .before .before .before .before .before .before .before .parse .ensures)
+    _ (c .before .before .before .before .before .before .before .before .before .parsed .given .1) _ _ _ _ (c .before .before .before .before .before .before .record3 .given .1) _ (c .before .before .before .before .named2 .ensures) _ _ _ (c .before .before .step .ensures)
 
 pub enter-spec : {M : Type 1} → statement M
 enter-spec =
@@ -94,11 +104,13 @@ enter-spec =
     start-requires
     enum-known-record-2
     name-start-requires
-    add-t26
+    add-named
+    named-requires
     declare-requires
     enum-known-record-3
-    add-t27
-    add-t28
+    add-named-2
+    add-named-3
+    named-requires-2
     step-requires
     returns-2
     returns-3

@@ -1,5 +1,5 @@
 use native.Mathlib.Omega.{arith}
-use Rattle.parser.proofs.Whole.{reads-long, reads-none, reads-lines}
+use Rattle.parser.proofs.Whole.{short-text, reads-long, reads-none, reads-lines}
 use Rattle.parser.proofs.Joined.{cleared}
 use borrow.Author.Needs.{needs}
 use Rattle.parser.proofs.texts.read.Statement.{statement}
@@ -38,7 +38,7 @@ returns-2 c =
     reads-none _ _ _ _ _ (c .before .before .before .before .before .before .before .before .before .before .before .before .pre) _ (c .before .before .before .before .text-of .ensures) _ (omega arith) (omega arith) _ (c .before .fresh2 .ensures) _ (c .refuse2 .ensures)
 
 read-lines-requires : tie.Need-read-lines-requires
-read-lines-requires c κs = search (cleared, needs)
+read-lines-requires c κs = (search (cleared, needs), short-text _ _ (c .before .before .before .text-of .ensures) (omega arith))
 
 same-length-3 : tie.Need-same-length-3
 same-length-3 c = search needs

@@ -50,7 +50,7 @@ add-end : tie.Need-add-end Inv-loop μ-loop
 add-end c = search needs
 
 enter-requires : tie.Need-enter-requires Inv-loop μ-loop
-enter-requires c κs = (search needs, in-text _ _ _ _ _ _ (c .before .before .before .before .before .before .before .text-of .ensures) (omega arith) (omega arith))
+enter-requires c κs = (search needs, in-text _ _ _ _ _ _ (c .before .before .before .before .before .before .before .text-of .ensures) (search needs) (omega arith) (omega arith))
 
 refuse-requires-2 : tie.Need-refuse-requires-2 Inv-loop μ-loop
 refuse-requires-2 c κs = search needs
@@ -60,7 +60,7 @@ same-length-2 c = search needs
 
 returns-2 : tie.Need-returns-2 Inv-loop μ-loop
 returns-2 c =
-    told-refused _ _ _ _ _ (c .before .before .before .before .before .before .before .before .before .before .before .fresh .ensures) _ (c .before .before .before .before .before .before .before .before .before .before .before .before .before .before .before .before .pre) _ (c .before .before .before .before .before .before .before .before .before .before .before .before .text-of .ensures) _ _ _ _ (c .before .before .before .before .before .before .before .before .before .before .loop .inv .2 .fit) (c .before .before .before .before .before .before .before .before .before .before .loop .inv .4)
+    told-refused _ _ _ _ _ (c .before .before .before .before .before .before .before .before .before .before .before .fresh .ensures) _ (c .before .before .before .before .before .before .before .before .before .before .before .before .before .before .before .before .pre .0) _ (c .before .before .before .before .before .before .before .before .before .before .before .before .text-of .ensures) _ _ _ _ (c .before .before .before .before .before .before .before .before .before .before .loop .inv .2 .fit) (c .before .before .before .before .before .before .before .before .before .before .loop .inv .4)
     _ (c .before .before .before .before .before .before .before .before .after .ensures) _ (c .before .before .before .before .before .before .before .find .ensures) (search needs) (search needs) _ refl _ _ (c .before .before .before .before .enter .ensures) (search needs) _ (c .refuse2 .ensures)
 
 add-at : tie.Need-add-at Inv-loop μ-loop
