@@ -1,11 +1,13 @@
--- The lowest member of a set by its trailing zeros, and the set without it, for any width.
+-- The lowest member of a set by its trailing zeros, and the set without it; where all members are by its leading zeros; for any width.
 use mathlib.Core.Path.{_≡_, refl, sym, ap, ap₂, _∙_}
 use mathlib.Core.Bool.{Bool, false, not, _&&_, and-true}
 use Prim.Native.Nat.{ℕ, zero, suc, _+_, _-_, _/_, _%_, _^_, _≤_, _<_}
-use native.Mathlib.Nat.{div-one, pow-suc, zero-div}
+use native.Mathlib.Nat.{div-one, div-eq-of-lt, pow-suc, zero-div}
+use native.Mathlib.Decide.{decLt}
 use native.Mathlib.Omega.{arith}
-use lib.Count.{trailingZeros, under, ones, ones-step}
+use lib.Count.{trailingZeros, under, leadingZeros, leading-length, ones, ones-step}
 use lib.Dec.{T, eqb, eqb·suc-suc, eqb·suc-zero}
+use lib.Pow.{pow-mono}
 use borrow.Author.Tests.{ne-eqb}
 use Rattle.theory.specs.Bounded.{count, digit}
 use Rattle.theory.specs.Sets.{has}
@@ -101,3 +103,12 @@ ones-count zero s h = let z : s ≡ 0 = omega arith in rw z
 ones-count (suc w) s h =
     ones-step s ∙ ap₂ _+_ (low-digit s ∙ ap digit (sym (has-zero s))) (ones-count w (s / 2) (omega (arith, pow-suc 2 w)) ∙ count-same w (has (s / 2)) (λ a. has s (suc a)) (λ a. sym (has-suc s a)))
     ∙ sym (count-suc w (has s))
+
+-- Every member is below the digits that are no leading zeros.
+pub within-width : (w s a : ℕ) → s < 2 ^ w → T (has s a) → a < w - leadingZeros w s
+within-width w s a h t =
+    let l = leading-length w s h in
+    elim (decLt a (l .0)) [
+      | yes b ↦ omega (arith, l .1)
+      | no b ↦ absurd (rw (div-eq-of-lt (let z : s < 2 ^ a = omega (arith, l .2, pow-mono {i = l .0} {j = a} (omega arith)) in z)) at t)
+    ]

@@ -3,7 +3,7 @@ ghost use mathlib.Core.Path.{_≡_};
 ghost use mathlib.Core.Bool.{not, _&&_, cond};
 ghost use Prim.Native.Nat.{ℕ, _-_, _^_};
 ghost use lib.Bits.{bitOr};
-ghost use lib.Count.{trailingZeros};
+ghost use lib.Count.{leadingZeros, trailingZeros};
 ghost use lib.Dec.{ltb};
 ghost use Rattle.theory.specs.Bounded.{any, count};
 ghost use Rattle.theory.specs.Sets.{has, difference as without};
@@ -41,6 +41,13 @@ pub fn lowest(s: u32) -> u32
     ensures { λ r. ⌜ r ≡ trailingZeros 32 s ⌝ }
 {
     u32::trailing_zeros(s)
+}
+
+// One more than the largest member; 0 if there is none.
+pub fn width(s: u32) -> u32
+    ensures { λ r. ⌜ r ≡ 32 - leadingZeros 32 s ⌝ }
+{
+    32 - u32::leading_zeros(s)
 }
 
 // The set without its lowest member.
