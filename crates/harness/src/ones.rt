@@ -4,9 +4,9 @@ ghost use Rattle.theory.specs.Table.{keptCount};
 ghost use Rattle.theory.specs.Checks.{first, tableChecks};
 ghost use Rattle.automaton.specs.Replies.{mirrorReply, followReply};
 ghost use Rattle.counts.specs.Cells.{stepsIn, endsIn};
-ghost use Rattle.harness.specs.Replies.{tableOf, judged, mirrored, followed};
-use crate::Reply;
-use crate::replies;
+ghost use Rattle.replies.specs.Replies.{judged, mirrored, followed};
+ghost use Rattle.harness.specs.Tables.{tableOf};
+use replies::Reply;
 use theory::Automaton;
 
 // Whether the table is sound.

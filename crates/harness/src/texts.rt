@@ -10,9 +10,9 @@ ghost use Rattle.emit.specs.Buffer.{stored};
 ghost use Rattle.names.specs.Names.{texts};
 ghost use Rattle.writer.specs.Replies.{writerReply};
 ghost use Rattle.report.specs.Report.{roomOf, Reported, cellsLeft, flagsLeft};
-ghost use Rattle.harness.specs.Replies.{tableOf, aloneRead, togetherRead, named, written};
-use crate::Reply;
-use crate::replies;
+ghost use Rattle.replies.specs.Replies.{aloneRead, togetherRead, named, written};
+ghost use Rattle.harness.specs.Tables.{tableOf};
+use replies::Reply;
 use theory::Automaton;
 
 // A text read alone; the table's cells are in the lent buffer.

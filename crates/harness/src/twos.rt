@@ -4,9 +4,9 @@ ghost use lib.ListN.{length};
 ghost use Rattle.composition.specs.Replies.{productReply, productCells, compatibilityReply, compatibilityFlags, compositionReply, compositionCells, compositionFlags};
 ghost use Rattle.refinement.specs.Replies.{refinementReply, refinementMarks};
 ghost use Rattle.synthesis.specs.Replies.{synthesisReply, synthesisCells, synthesisFlags};
-ghost use Rattle.harness.specs.Replies.{tableOf, multiplied, fitted, composed, refined, synthesized};
-use crate::Reply;
-use crate::replies;
+ghost use Rattle.replies.specs.Replies.{multiplied, fitted, composed, refined, synthesized};
+ghost use Rattle.harness.specs.Tables.{tableOf};
+use replies::Reply;
 use theory::Automaton;
 
 // The product; its cells are in the lent buffer.

@@ -1,4 +1,3 @@
-pub mod Rows
 pub mod Texts
 pub mod Made
 pub mod Whole

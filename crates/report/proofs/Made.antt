@@ -21,7 +21,8 @@ use Rattle.counts.proofs.Cells.{steps-of-table, ends-of-table}
 use Rattle.synthesis.specs.declared.Synthesis.{Synthesis}
 use Rattle.synthesis.specs.declared.Synthesis.the-variants as made
 use Rattle.synthesis.specs.Replies.{decidedOf, synthesisReply, synthesisCells, synthesisFlags}
-use Rattle.report.specs.Report.{refusalText, figures, withText}
+use Rattle.printout.specs.Lines.{refusalText, figures}
+use Rattle.report.specs.Report.{withText}
 use Rattle.report.specs.Parts.{sixOf, InOrder, WithText, tableTold, toldText, pairsText}
 
 -- ---- texts in some order
@@ -41,6 +42,14 @@ pub in-any-order : (t : Table) (f : (ℕ → List ℕ) → List ℕ) (s bytes : 
     → Puts bytes 0 s end bytes′ → InOrder t f bytes end bytes′
 in-any-order t f s bytes end bytes′ h (u, v) =
     record { order = ascending t; each-once = ascending-order t; text = rw (← h (ascending t)) v; ends = rw (← h (ascending t)) u }
+
+-- ---- the six lines over the buffers
+
+pub six-put : (d : List ℕ) (compatible : Bool) (states kept rounds steps ends : ℕ) (cells flags : List ℕ) (r : ℕ) (b : List ℕ)
+    → kept ≡ keptCount flags → steps ≡ stepsIn states cells → ends ≡ endsIn states cells
+    → Puts d 0 (figures compatible states kept rounds steps ends) r b → Puts d 0 (sixOf compatible states rounds cells flags) r b
+unfolding sixOf
+six-put d compatible states kept rounds steps ends cells flags r b e f g p = rw (e, f, g) at p
 
 -- ---- the reply
 

@@ -18,7 +18,8 @@ use Rattle.emit.proofs.Buffer.{Puts, puts-then}
 use Rattle.writer.specs.declared.Printed.{Printed}
 use Rattle.writer.specs.declared.Printed.the-variants as reply
 use Rattle.writer.specs.Replies.{writerReply}
-use Rattle.report.specs.Report.{sequencerWord, refusalText, signalNames, withText}
+use Rattle.printout.specs.Lines.{refusalText}
+use Rattle.report.specs.Report.{sequencerWord, signalNames, withText}
 use Rattle.report.specs.Parts.{WithText}
 
 -- ---- the names

@@ -1,26 +1,19 @@
 -- What the parts of the report answer, each for all arguments.
 use mathlib.Core.Path.{_≡_}
 use mathlib.Core.Bool.{Bool, true, false, cond}
-use mathlib.Core.List.{List, [], _∷_}
+use mathlib.Core.List.{List}
 use Prim.Native.Nat.{ℕ, _*_, _≤_}
 use lib.ListN.{length}
 use Rattle.theory.specs.declared.Automaton.{Automaton}
 use Rattle.theory.specs.Table.{Table, table, synthesis, controller, keptCount, stepCount, endCount}
 use Rattle.theory.specs.Checks.{first, unlessRefused, synthesisChecks}
-use Rattle.text.specs.Writing.{decimal, printed, Order}
+use Rattle.text.specs.Writing.{Order}
 use Rattle.emit.specs.Buffer.{stored, after}
 use Rattle.counts.specs.Cells.{stepsIn, endsIn}
 use Rattle.synthesis.specs.declared.Synthesis.{Synthesis}
 use Rattle.synthesis.specs.declared.Synthesis.the-variants as made
-use Rattle.report.specs.Report.{verdictWord, yesWord, noneWord, refusalText, figures, withText, madeText, roomOf, cellsMade, flagsMade}
-
--- The first of the six lines.
-abbrev pub verdictText : Bool → List ℕ
-verdictText compatible = printed ((verdictWord ∷ cond compatible yesWord noneWord ∷ []) ∷ [])
-
--- A line of a word and a number.
-abbrev pub figureText : List ℕ → ℕ → List ℕ
-figureText word n = printed ((word ∷ decimal n ∷ []) ∷ [])
+use Rattle.printout.specs.Lines.{refusalText, figures}
+use Rattle.report.specs.Report.{withText, madeText, roomOf, cellsMade, flagsMade}
 
 -- The six lines over what stands in the maker's buffers.
 unfoldable pub sixOf : Bool → ℕ → ℕ → List ℕ → List ℕ → List ℕ

@@ -1,6 +1,6 @@
--- What the bench program prints for two files or two texts (01, "The program and one full run"). m is the module's text, p the plan's.
+-- What the bench program prints for two texts (01, "The program and one full run"). m is the module's text, p the plan's.
 use mathlib.Core.Path.{_≡_}
-use mathlib.Core.Bool.{Bool, cond}
+use mathlib.Core.Bool.{cond}
 use mathlib.Core.List.{List, [], _∷_, _++_}
 use Prim.Native.Nat.{ℕ, _*_, _/_}
 use lib.Dec.{leb}
@@ -9,66 +9,17 @@ use Rattle.theory.specs.declared.Automaton.{Automaton}
 use Rattle.theory.specs.Bounded.{tabulate}
 use Rattle.theory.specs.Table.{Table, table, synthesis, controller, keptCount, stepCount, endCount}
 use Rattle.theory.specs.Checks.{first, unlessRefused, synthesisChecks}
-use Rattle.text.specs.Reading.{Reading, Joint, both, neither, readBoth, cellsFirst, cellsSecond}
-use Rattle.text.specs.Writing.{decimal, printed, textWith, Order, writerChecks}
+use Rattle.text.specs.Reading.{Reading, Joint, both, neither, readBoth}
+use Rattle.text.specs.Writing.{textWith, Order, writerChecks}
 use Rattle.text.specs.Lookup.{lookup}
 use Rattle.emit.specs.Buffer.{stored, after}
-use Rattle.files.specs.declared.File.{File}
-use Rattle.files.specs.declared.File.the-variants.{Bytes, Unreadable}
+use Rattle.printout.specs.Lines.{refusalText, figures}
 
--- ---- lines
-
--- `verdict`.
-abbrev pub verdictWord : List ℕ
-verdictWord = 118 ∷ 101 ∷ 114 ∷ 100 ∷ 105 ∷ 99 ∷ 116 ∷ []
-
--- `yes`.
-abbrev pub yesWord : List ℕ
-yesWord = 121 ∷ 101 ∷ 115 ∷ []
-
--- `none`.
-abbrev pub noneWord : List ℕ
-noneWord = 110 ∷ 111 ∷ 110 ∷ 101 ∷ []
-
--- `pairs`.
-abbrev pub pairsWord : List ℕ
-pairsWord = 112 ∷ 97 ∷ 105 ∷ 114 ∷ 115 ∷ []
-
--- `kept`.
-abbrev pub keptWord : List ℕ
-keptWord = 107 ∷ 101 ∷ 112 ∷ 116 ∷ []
-
--- `rounds`.
-abbrev pub roundsWord : List ℕ
-roundsWord = 114 ∷ 111 ∷ 117 ∷ 110 ∷ 100 ∷ 115 ∷ []
-
--- `steps`.
-abbrev pub stepsWord : List ℕ
-stepsWord = 115 ∷ 116 ∷ 101 ∷ 112 ∷ 115 ∷ []
-
--- `ends`.
-abbrev pub endsWord : List ℕ
-endsWord = 101 ∷ 110 ∷ 100 ∷ 115 ∷ []
-
--- `refused`.
-abbrev pub refusedWord : List ℕ
-refusedWord = 114 ∷ 101 ∷ 102 ∷ 117 ∷ 115 ∷ 101 ∷ 100 ∷ []
+-- ---- two tables
 
 -- `sequencer`.
 abbrev pub sequencerWord : List ℕ
 sequencerWord = 115 ∷ 101 ∷ 113 ∷ 117 ∷ 101 ∷ 110 ∷ 99 ∷ 101 ∷ 114 ∷ []
-
--- A refusal prints one line: file (1 module, 2 plan, 0 both or the result), number, line.
-unfoldable pub refusalText : ℕ → ℕ → ℕ → List ℕ
-refusalText file number line = printed ((refusedWord ∷ decimal file ∷ decimal number ∷ decimal line ∷ []) ∷ [])
-
--- The six lines. Steps and ends are over all pairs, with either verdict.
-unfoldable pub figures : Bool → ℕ → ℕ → ℕ → ℕ → ℕ → List ℕ
-figures compatible pairs kept rounds steps ends = printed (
-    (verdictWord ∷ cond compatible yesWord noneWord ∷ []) ∷ (pairsWord ∷ decimal pairs ∷ []) ∷ (keptWord ∷ decimal kept ∷ [])
-    ∷ (roundsWord ∷ decimal rounds ∷ []) ∷ (stepsWord ∷ decimal steps ∷ []) ∷ (endsWord ∷ decimal ends ∷ []) ∷ [])
-
--- ---- two tables
 
 -- Signals have the names that the two texts gave them.
 unfoldable pub signalNames : List ℕ → List ℕ → List (List ℕ)
@@ -145,28 +96,3 @@ cellsLeft cells flags (neither r) = cells
 abbrev pub flagsLeft : ℕ → List ℕ → Joint → List ℕ
 flagsLeft cells flags (both x y) = flagsMade (tableRead x) (tableRead y) cells flags
 flagsLeft cells flags (neither r) = flags
-
--- ---- the program: what came of the two files, and what a call leaves in the lent buffers, cm and cp the cells of module and plan
-
--- A file that cannot be read: one line with 24, and nothing else is touched.
-pub record Unread (file : ℕ) (cm cp cells flags bytes : List ℕ) (end : ℕ) (cm′ cp′ cells′ flags′ bytes′ : List ℕ) : Type 0 where
-  pub text : bytes′ ≡ stored bytes 0 (refusalText file 24 0)
-  pub ends : end ≡ after (length bytes) 0 (refusalText file 24 0)
-  pub module-kept : cm′ ≡ cm
-  pub plan-kept : cp′ ≡ cp
-  pub cells-kept : cells′ ≡ cells
-  pub flags-kept : flags′ ≡ flags
-
--- Two texts: the report of them.
-pub record Told (m p cm cp cells flags bytes : List ℕ) (end : ℕ) (cm′ cp′ cells′ flags′ bytes′ : List ℕ) : Type 0 where
-  pub told : Reported m p (length cm) (length cp) (roomOf (length cells) (length flags)) bytes end bytes′
-  pub module-left : cm′ ≡ cellsFirst (length cm) (readBoth (length cm) m (length cp) p)
-  pub plan-left : cp′ ≡ cellsSecond (length cp) (readBoth (length cm) m (length cp) p)
-  pub cells-left : cells′ ≡ cellsLeft cells (length flags) (readBoth (length cm) m (length cp) p)
-  pub flags-left : flags′ ≡ flagsLeft (length cells) flags (readBoth (length cm) m (length cp) p)
-
--- 24 for the first unreadable one before any text check. Of a file that was read, the text is as many of the lent bytes as were read.
-abbrev pub Ran : File → File → (m p cm cp cells flags bytes : List ℕ) (end : ℕ) (cm′ cp′ cells′ flags′ bytes′ : List ℕ) → Type 0
-Ran Unreadable second m p = Unread 1
-Ran (Bytes i) Unreadable m p = Unread 2
-Ran (Bytes i) (Bytes j) m p = Told (take i m) (take j p)

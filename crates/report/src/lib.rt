@@ -1,4 +1,4 @@
-// All that the bench program prints (document 01, "The program and one full run"), made in a lent buffer.
+// All that the bench program prints for two texts (document 01, "The program and one full run"), made in a lent buffer.
 ghost use mathlib.Core.Path.{_≡_};
 ghost use mathlib.Core.Bool.{true};
 ghost use Prim.Native.Nat.{_*_, _≤_};
@@ -9,17 +9,13 @@ ghost use Rattle.text.specs.Writing.{Written};
 ghost use Rattle.emit.specs.Buffer.{after, stored};
 ghost use Rattle.writer.specs.Replies.{writerReply};
 ghost use Rattle.synthesis.specs.Replies.{synthesisCells, synthesisFlags};
-ghost use Rattle.report.specs.Report.{sequencerWord, signalNames, lesserOf, roomOf, Reported, cellsLeft, flagsLeft, Ran};
+ghost use Rattle.report.specs.Report.{sequencerWord, signalNames, lesserOf, roomOf, Reported, cellsLeft, flagsLeft};
 ghost use Rattle.report.specs.Parts.{sixOf, InOrder, WithText, tableTold, toldText, pairsText, Holds, Makes};
-use files::File;
+use printout::refusal_line;
 use reader::Together;
 use synthesis::Synthesis;
 use theory::Automaton;
 use writer::Printed;
-
-mod lines;
-
-use lines::refusal_line;
 
 // The text of table `sequencer`, with the names that the two texts gave the signals.
 fn write_text<'a>(
@@ -84,7 +80,7 @@ fn six_lines(
     let kept = counts::count_kept(flags);
     let steps = counts::count_steps(states, cells);
     let ends = counts::count_ends(states, cells);
-    lines::figures(out, compatible, states, kept, rounds, steps, ends)
+    printout::figures(out, compatible, states, kept, rounds, steps, ends)
 }
 
 // The six lines and the text, which is made before anything is printed; or why there is no text.
@@ -245,30 +241,4 @@ pub fn report<'a>(
             specification,
         } => make_in(m, p, component, cm, specification, cp, cells, flags, out),
     }
-}
-
-// The program, by what came of its two files: 24 for the first unreadable one, else the report. Each text stands at the start of its buffer.
-pub fn program<'a>(
-    first: File,
-    second: File,
-    m: &'a [u8],
-    p: &'a [u8],
-    cm: &mut [u16],
-    cp: &mut [u16],
-    cells: &mut [u16],
-    flags: &mut [u8],
-    out: &mut [u8],
-) -> usize
-    ensures { λ r. ⌜ Ran first second (now (m .entry)) (now (p .entry)) (now (cm .entry)) (now (cp .entry)) (now (cells .entry)) (now (flags .entry)) (now (out .entry)) r (now (cm .exit)) (now (cp .exit)) (now (cells .exit)) (now (flags .exit)) (now (out .exit)) ⌝ }
-    ensures { λ r. ⌜ r ≤ 65608 ⌝ }
-{
-    let File::Bytes(i) = first else {
-        return refusal_line(out, 0, 1, 24, 0);
-    };
-    let File::Bytes(j) = second else {
-        return refusal_line(out, 0, 2, 24, 0);
-    };
-    let module = scan::before(m, i);
-    let plan = scan::before(p, j);
-    report(module, plan, cm, cp, cells, flags, out)
 }

@@ -5,7 +5,7 @@ use Rattle.report.proofs.put_text.Tie as tie
 use Rattle.report.proofs.put_text.Reads as reads
 use Rattle.report.proofs.put_text.Lts as lts
 use Rattle.emit.proofs.put.Reads as put-reads
-use Rattle.report.proofs.lines.refusal_line.Reads as refusal-line-reads
+use Rattle.printout.proofs.refusal_line.Reads as refusal-line-reads
 use Rattle.report.proofs.six_lines.Reads as six-lines-reads
 use Rattle.report.proofs.write_text.Reads as write-text-reads
 

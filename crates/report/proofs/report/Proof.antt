@@ -6,7 +6,7 @@ use Rattle.report.proofs.report.Tie as tie
 use Rattle.report.proofs.report.Reads as reads
 use Rattle.report.proofs.report.Lts as lts
 use Rattle.reader.proofs.read_together.Reads as read-together-reads
-use Rattle.report.proofs.lines.refusal_line.Reads as refusal-line-reads
+use Rattle.printout.proofs.refusal_line.Reads as refusal-line-reads
 use Rattle.report.proofs.make_in.Reads as make-in-reads
 
 read-together-requires : tie.Need-read-together-requires

@@ -4,7 +4,7 @@ use Rattle.report.proofs.tell.Statement.{statement}
 use Rattle.report.proofs.tell.Tie as tie
 use Rattle.report.proofs.tell.Reads as reads
 use Rattle.report.proofs.tell.Lts as lts
-use Rattle.report.proofs.lines.refusal_line.Reads as refusal-line-reads
+use Rattle.printout.proofs.refusal_line.Reads as refusal-line-reads
 use Rattle.report.proofs.six_lines.Reads as six-lines-reads
 use Rattle.report.proofs.with_text.Reads as with-text-reads
 

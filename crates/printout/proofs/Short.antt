@@ -1,0 +1,72 @@
+-- How long the lines are: 26 bytes at most for a refusal, 72 for the six.
+use mathlib.Core.Path.{_≡_}
+use mathlib.Core.Bool.{Bool, true, false, cond}
+use mathlib.Core.List.{List, [], _∷_, _++_}
+use Prim.Native.Nat.{ℕ, zero, suc, _+_, _/_, _%_, _≤_}
+use native.Mathlib.Omega.{arith}
+use lib.Dec.{ltb}
+use lib.ListN.{length, length-append}
+use Rattle.text.specs.Writing.{digitsOf, decimal, tabbed, printed}
+use Rattle.emit.specs.Buffer.{after, stored}
+use Rattle.emit.proofs.Buffer.{Puts}
+use Rattle.printout.specs.Lines.{verdictWord, yesWord, noneWord, pairsWord, keptWord, roundsWord, stepsWord, endsWord, refusedWord, refusalText, figures}
+
+digits-short : (k n : ℕ) → length (digitsOf k n) ≤ k + 1
+unfolding digitsOf
+digits-short zero n = omega arith
+digits-short (suc k) n = elim (ltb n 10) as (λ b. length (cond b ((48 + n % 10) ∷ []) (digitsOf k (n / 10) ++ (48 + n % 10) ∷ [])) ≤ suc k + 1) [
+  | true ↦ omega arith
+  | false ↦ omega (arith, length-append (digitsOf k (n / 10)) ((48 + n % 10) ∷ []), digits-short k (n / 10))
+]
+
+decimal-short : (n : ℕ) → length (decimal n) ≤ 5
+unfolding decimal
+decimal-short n = digits-short 4 n
+
+-- A field, a tab and more fields; a line, its LF and more lines.
+tabbed-short : (f g : List ℕ) (fs : List (List ℕ)) (k n : ℕ) → length f ≤ k → length (tabbed (g ∷ fs)) ≤ n → length (tabbed (f ∷ g ∷ fs)) ≤ k + 1 + n
+unfolding tabbed
+tabbed-short f g fs k n h i = omega (arith, length-append f (9 ∷ tabbed (g ∷ fs)))
+
+printed-short : (l : List (List ℕ)) (ls : List (List (List ℕ))) (k n : ℕ) → length (tabbed l) ≤ k → length (printed ls) ≤ n
+    → length (printed (l ∷ ls)) ≤ k + 1 + n
+unfolding printed
+printed-short l ls k n h i = omega (arith, length-append (tabbed l) (10 ∷ printed ls))
+
+-- A line of a word and a field of at most k bytes.
+row-short : (w f : List ℕ) (ls : List (List (List ℕ))) (k n : ℕ) → length f ≤ k → length (printed ls) ≤ n
+    → length (printed ((w ∷ f ∷ []) ∷ ls)) ≤ length w + k + 2 + n
+unfolding tabbed
+row-short w f ls k n h i = omega (arith, printed-short (w ∷ f ∷ []) ls (length w + 1 + k) n (tabbed-short w f [] (length w) k (omega arith) h) i)
+
+none-short : length (printed []) ≤ 0
+unfolding printed
+none-short = omega arith
+
+pub refusal-short : (file number line : ℕ) → length (refusalText file number line) ≤ 26
+unfolding refusalText tabbed
+refusal-short file number line =
+    printed-short _ [] 25 0 (tabbed-short refusedWord (decimal file) (decimal number ∷ decimal line ∷ []) 7 17 (omega arith)
+    (tabbed-short (decimal file) (decimal number) (decimal line ∷ []) 5 11 (decimal-short file)
+    (tabbed-short (decimal number) (decimal line) [] 5 5 (decimal-short number) (decimal-short line)))) none-short
+
+module _ (compatible : Bool) (pairs kept rounds steps ends : ℕ) where
+  verdict-short : length (cond compatible yesWord noneWord) ≤ 4
+  verdict-short = elim compatible as (λ b. length (cond b yesWord noneWord) ≤ 4) [ true ↦ omega arith | false ↦ omega arith ]
+
+  pub figures-short : length (figures compatible pairs kept rounds steps ends) ≤ 72
+  unfolding figures
+  figures-short =
+      row-short verdictWord (cond compatible yesWord noneWord) _ 4 59 verdict-short (row-short pairsWord (decimal pairs) _ 5 47 (decimal-short pairs)
+      (row-short keptWord (decimal kept) _ 5 36 (decimal-short kept) (row-short roundsWord (decimal rounds) _ 5 23 (decimal-short rounds)
+      (row-short stepsWord (decimal steps) _ 5 11 (decimal-short steps) (row-short endsWord (decimal ends) [] 5 0 (decimal-short ends) none-short)))))
+
+-- ---- where a call ends
+
+pub within : (n at : ℕ) (s : List ℕ) → after n at s ≤ at + length s
+unfolding after
+within n at s = omega arith
+
+pub refusal-ends : (d : List ℕ) (at file number line r : ℕ) (b : List ℕ) → Puts d at (refusalText file number line) r b
+    → (r ≡ after (length d) at (refusalText file number line)) × ((b ≡ stored d at (refusalText file number line)) × (r ≤ at + 26))
+refusal-ends d at file number line r b (u, v) = (u, (v, omega (arith, within (length d) at (refusalText file number line), refusal-short file number line)))

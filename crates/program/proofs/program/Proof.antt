@@ -1,0 +1,106 @@
+use native.Mathlib.Omega.{arith}
+use Rattle.program.proofs.Files.{first-unread, second-unread, both-read}
+use borrow.Author.Needs.{needs}
+use Rattle.program.proofs.program.Statement.{statement}
+use Rattle.program.proofs.program.Tie as tie
+use Rattle.program.proofs.program.Reads as reads
+use Rattle.program.proofs.program.Lts as lts
+use Rattle.printout.proofs.refusal_line.Reads as refusal-line-reads
+use Rattle.report.proofs.report.Reads as report-reads
+use Rattle.scan.proofs.before.Reads as before-reads
+
+enum-known-first : tie.Need-enum-known-first
+enum-known-first c = search needs
+
+enum-told : tie.Need-enum-told
+enum-told c = search needs
+
+refusal-line-requires : tie.Need-refusal-line-requires
+refusal-line-requires c κs = search needs
+
+same-length : tie.Need-same-length
+same-length c = search needs
+
+returns : tie.Need-returns
+returns c =
+    let f = c .before .before in
+    let e = f .refusal-line .ensures in
+    (first-unread _ _ _ _ _ _ _ _ _ _ _ (f .before .before .enum-told .given .1) (e .0, e .1 .0), omega (arith, e .1 .1))
+
+enum-known-second : tie.Need-enum-known-second
+enum-known-second c = search needs
+
+enum-told-2 : tie.Need-enum-told-2
+enum-told-2 c = search needs
+
+refusal-line-requires-2 : tie.Need-refusal-line-requires-2
+refusal-line-requires-2 c κs = search needs
+
+same-length-2 : tie.Need-same-length-2
+same-length-2 c = search needs
+
+returns-2 : tie.Need-returns-2
+returns-2 c =
+    let f = c .before .before in
+    let t = f .before .before in
+    let e = f .refusal-line2 .ensures in
+    (second-unread _ _ _ _ _ _ _ _ _ _ _ _ (t .before .before .before .first .given .1) (t .enum-told2 .given .1) (e .0, e .1 .0), omega (arith, e .1 .1))
+
+before-requires : tie.Need-before-requires
+before-requires c κs = search needs
+
+before-requires-2 : tie.Need-before-requires-2
+before-requires-2 c κs = search needs
+
+report-requires : tie.Need-report-requires
+report-requires c κs = search needs
+
+same-length-3 : tie.Need-same-length-3
+same-length-3 c = search needs
+
+same-length-4 : tie.Need-same-length-4
+same-length-4 c = search needs
+
+same-length-5 : tie.Need-same-length-5
+same-length-5 c = search needs
+
+same-length-6 : tie.Need-same-length-6
+same-length-6 c = search needs
+
+same-length-7 : tie.Need-same-length-7
+same-length-7 c = search needs
+
+returns-3 : tie.Need-returns-3
+returns-3 c =
+    let f = c .before .before .before .before .before .before .before .before .before .before in
+    let q = f .before .before .before .before .before .before in
+    let s = q .before .before .before in
+    let e = f .report .ensures in (
+      both-read _ _ _ _ _ _ _ _ _ _ _ _ _ (s .before .before .before .first .given .1) (s .second .given .1) _ _ (q .before .before2 .ensures)
+          (q .before3 .ensures) _ _ _ _ (record { told = e .0; module-left = e .1 .0; plan-left = e .1 .1 .0; cells-left = e .1 .1 .1 .0; flags-left = e .1 .1 .1 .1 .0 }),
+      e .1 .1 .1 .1 .1,
+    )
+
+pub program-spec : {M : Type 1} → statement M
+program-spec =
+    tie.close
+    (tie.spec
+    enum-known-first
+    enum-told
+    refusal-line-requires
+    same-length
+    returns
+    enum-known-second
+    enum-told-2
+    refusal-line-requires-2
+    same-length-2
+    returns-2
+    before-requires
+    before-requires-2
+    report-requires
+    same-length-3
+    same-length-4
+    same-length-5
+    same-length-6
+    same-length-7
+    returns-3)

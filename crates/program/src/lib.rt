@@ -1,0 +1,30 @@
+// The bench program but for its reading and printing (document 01, "The program and one full run").
+ghost use Prim.Native.Nat.{_≤_};
+ghost use Rattle.program.specs.Run.{Ran};
+use files::File;
+
+// The program, by what came of its two files: 24 for the first unreadable one, else the report. Each text stands at the start of its buffer.
+pub fn program<'a>(
+    first: File,
+    second: File,
+    m: &'a [u8],
+    p: &'a [u8],
+    cm: &mut [u16],
+    cp: &mut [u16],
+    cells: &mut [u16],
+    flags: &mut [u8],
+    out: &mut [u8],
+) -> usize
+    ensures { λ r. ⌜ Ran first second (now (m .entry)) (now (p .entry)) (now (cm .entry)) (now (cp .entry)) (now (cells .entry)) (now (flags .entry)) (now (out .entry)) r (now (cm .exit)) (now (cp .exit)) (now (cells .exit)) (now (flags .exit)) (now (out .exit)) ⌝ }
+    ensures { λ r. ⌜ r ≤ 65608 ⌝ }
+{
+    let File::Bytes(i) = first else {
+        return printout::refusal_line(out, 0, 1, 24, 0);
+    };
+    let File::Bytes(j) = second else {
+        return printout::refusal_line(out, 0, 2, 24, 0);
+    };
+    let module = scan::before(m, i);
+    let plan = scan::before(p, j);
+    report::report(module, plan, cm, cp, cells, flags, out)
+}

@@ -1,0 +1,27 @@
+use Rattle.replies.specs.Replies.{judged}
+use Rattle.replies.proofs.Laws.{told}
+use borrow.Author.Needs.{needs}
+use Rattle.replies.proofs.judged.Statement.{statement}
+use Rattle.replies.proofs.judged.Tie as tie
+
+enum-told : tie.Need-enum-told
+enum-told c = search needs
+
+bare-requires : tie.Need-bare-requires
+bare-requires c κs = search needs
+
+enum-known-c : tie.Need-enum-known-c
+enum-known-c c = search needs
+
+bare-requires-2 : tie.Need-bare-requires-2
+bare-requires-2 c κs = search needs
+
+returns : tie.Need-returns
+returns c = search (told judged, needs)
+
+returns-2 : tie.Need-returns-2
+returns-2 c = search (told judged, needs)
+
+pub judged-spec : {M : Type 1} → statement M
+judged-spec =
+    tie.close (tie.spec enum-told bare-requires enum-known-c bare-requires-2 returns returns-2)

@@ -1,0 +1,143 @@
+-- The one reply record, from the library's replies: every field in every case.
+use Prim.Native.Nat.{ℕ}
+use mathlib.Core.Bool.{Bool, true, false}
+use mathlib.Core.List.{List}
+use lib.ListN.{length}
+use Rattle.theory.specs.declared.Automaton.{Automaton}
+use Rattle.theory.specs.declared.Checked.{Checked}
+use Rattle.theory.specs.declared.Checked.the-variants as checks
+use Rattle.automaton.specs.declared.Mirrored.{Mirrored}
+use Rattle.automaton.specs.declared.Mirrored.the-variants as mirror
+use Rattle.automaton.specs.declared.Followed.{Followed}
+use Rattle.automaton.specs.declared.Followed.the-variants as follow
+use Rattle.composition.specs.declared.Built.{Built}
+use Rattle.composition.specs.declared.Built.the-variants as product
+use Rattle.composition.specs.declared.Compatibility.{Compatibility}
+use Rattle.composition.specs.declared.Compatibility.the-variants as fit
+use Rattle.composition.specs.declared.Composition.{Composition}
+use Rattle.composition.specs.declared.Composition.the-variants as compose
+use Rattle.refinement.specs.declared.Refined.{Refined}
+use Rattle.refinement.specs.declared.Refined.the-variants as refine
+use Rattle.synthesis.specs.declared.Synthesis.{Synthesis}
+use Rattle.synthesis.specs.declared.Synthesis.the-variants as synthesize
+use Rattle.reader.specs.declared.Alone.{Alone}
+use Rattle.reader.specs.declared.Alone.the-variants as alone
+use Rattle.reader.specs.declared.Together.{Together}
+use Rattle.reader.specs.declared.Together.the-variants as together
+use Rattle.writer.specs.declared.Printed.{Printed}
+use Rattle.writer.specs.declared.Printed.the-variants as write
+use Rattle.replies.specs.declared.Reply.{Reply}
+
+-- ---- the three shapes
+
+-- No table is given back.
+abbrev pub bareReply : ℕ → ℕ → ℕ → Bool → ℕ → Reply
+bareReply number place line verdict value = record {
+  number = number;
+  place = place;
+  line = line;
+  yes = verdict;
+  value = value;
+  states = 0;
+  initial = 0;
+  inputs = 0;
+  outputs = 0;
+  «states_2» = 0;
+  «initial_2» = 0;
+  «inputs_2» = 0;
+  «outputs_2» = 0;
+}
+
+-- One table is.
+abbrev pub headedReply : Bool → ℕ → Automaton → Reply
+headedReply verdict value a = record {
+  number = 0;
+  place = 0;
+  line = 0;
+  yes = verdict;
+  value = value;
+  states = a .states;
+  initial = a .initial;
+  inputs = a .inputs;
+  outputs = a .outputs;
+  «states_2» = 0;
+  «initial_2» = 0;
+  «inputs_2» = 0;
+  «outputs_2» = 0;
+}
+
+-- Two are.
+abbrev pub bothReply : Automaton → Automaton → Reply
+bothReply a b = record {
+  number = 0;
+  place = 0;
+  line = 0;
+  yes = false;
+  value = 0;
+  states = a .states;
+  initial = a .initial;
+  inputs = a .inputs;
+  outputs = a .outputs;
+  «states_2» = b .states;
+  «initial_2» = b .initial;
+  «inputs_2» = b .inputs;
+  «outputs_2» = b .outputs;
+}
+
+-- ---- one table
+
+abbrev pub judged : Checked → Reply
+judged checks.Accepted = bareReply 0 0 0 false 0
+judged (checks.Refused r) = bareReply (r .number) (r .table) 0 false 0
+
+abbrev pub mirrored : Mirrored → Reply
+mirrored (mirror.Mirror h) = headedReply false 0 h
+mirrored (mirror.Refused r) = bareReply (r .number) (r .table) 0 false 0
+
+-- Not moved or refused, the state is the one that was given.
+abbrev pub followed : ℕ → Followed → Reply
+followed state (follow.Moved to) = bareReply 0 0 0 true to
+followed state follow.NotNow = bareReply 0 0 0 false state
+followed state (follow.Refused r) = bareReply (r .number) (r .table) 0 false state
+
+-- ---- two tables
+
+abbrev pub multiplied : Built → Reply
+multiplied (product.Product h) = headedReply false 0 h
+multiplied (product.Refused r) = bareReply (r .number) (r .table) 0 false 0
+
+abbrev pub fitted : Compatibility → Reply
+fitted (fit.Decided verdict rounds) = bareReply 0 0 0 verdict rounds
+fitted (fit.Refused r) = bareReply (r .number) (r .table) 0 false 0
+
+abbrev pub composed : Composition → Reply
+composed (compose.Decided verdict h rounds) = headedReply verdict rounds h
+composed (compose.Refused r) = bareReply (r .number) (r .table) 0 false 0
+
+abbrev pub refined : Refined → Reply
+refined (refine.Decided verdict) = bareReply 0 0 0 verdict 0
+refined (refine.Refused r) = bareReply (r .number) (r .table) 0 false 0
+
+abbrev pub synthesized : Synthesis → Reply
+synthesized (synthesize.Controller h rounds) = headedReply true rounds h
+synthesized (synthesize.NoController h rounds) = headedReply false rounds h
+synthesized (synthesize.Refused r) = bareReply (r .number) (r .table) 0 false 0
+
+-- ---- table text
+
+abbrev pub aloneRead : Alone → Reply
+aloneRead (alone.Table h) = headedReply false 0 h
+aloneRead (alone.Refused r) = bareReply (r .number) (r .text) (r .line) false 0
+
+-- The module's table is the first, the plan's the second.
+abbrev pub togetherRead : Together → Reply
+togetherRead (together.Tables m p) = bothReply m p
+togetherRead (together.Refused r) = bareReply (r .number) (r .text) (r .line) false 0
+
+-- A lookup: its refusal is a number only, and the name is then empty.
+abbrev pub named : ℕ → List ℕ → Reply
+named number name = bareReply number 0 0 false (length name)
+
+abbrev pub written : Printed → Reply
+written (write.Length n) = bareReply 0 0 0 false n
+written (write.Refused r) = bareReply (r .number) (r .table) 0 false 0

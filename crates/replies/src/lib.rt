@@ -1,0 +1,209 @@
+// The library's replies as one record, which the C ABI can hand back: for tests and benchmarks.
+ghost use mathlib.Core.Path.{_≡_};
+ghost use Rattle.replies.specs.Replies.{bareReply, headedReply, bothReply, judged as judgedReply, mirrored as mirroredReply, followed as followedReply, multiplied as multipliedReply, fitted as fittedReply, composed as composedReply, refined as refinedReply, synthesized as synthesizedReply, aloneRead, togetherRead, written as writtenReply};
+use automaton::Followed;
+use automaton::Mirrored;
+use composition::Built;
+use composition::Compatibility;
+use composition::Composition;
+use reader::Alone;
+use reader::Together;
+use refinement::Refined;
+use synthesis::Synthesis;
+use theory::Automaton;
+use theory::Checked;
+use writer::Printed;
+
+// What any call gives. A field that a call does not set is 0.
+#[repr(C)]
+pub struct Reply {
+    // Document 01's number, 0 where nothing is refused; the table or text at fault; the line, for readings.
+    pub number: u32,
+    pub place: u32,
+    pub line: usize,
+    // The verdict; whether the follower moved.
+    pub yes: bool,
+    // Rounds, a state, or a length.
+    pub value: usize,
+    // The numbers of the table given back.
+    pub states: usize,
+    pub initial: usize,
+    pub inputs: u32,
+    pub outputs: u32,
+    // Those of the plan, where two texts are read together.
+    pub states_2: usize,
+    pub initial_2: usize,
+    pub inputs_2: u32,
+    pub outputs_2: u32,
+}
+
+// No table is given back.
+pub fn bare(number: u32, place: u32, line: usize, verdict: bool, value: usize) -> Reply
+    ensures { λ r. ⌜ r ≡ bareReply number place line verdict value ⌝ }
+{
+    Reply {
+        number,
+        place,
+        line,
+        yes: verdict,
+        value,
+        states: 0,
+        initial: 0,
+        inputs: 0,
+        outputs: 0,
+        states_2: 0,
+        initial_2: 0,
+        inputs_2: 0,
+        outputs_2: 0,
+    }
+}
+
+// One table is.
+fn headed(verdict: bool, value: usize, a: Automaton) -> Reply
+    ensures { λ r. ⌜ r ≡ headedReply verdict value a ⌝ }
+{
+    Reply {
+        number: 0,
+        place: 0,
+        line: 0,
+        yes: verdict,
+        value,
+        states: a.states,
+        initial: a.initial,
+        inputs: a.inputs,
+        outputs: a.outputs,
+        states_2: 0,
+        initial_2: 0,
+        inputs_2: 0,
+        outputs_2: 0,
+    }
+}
+
+// Two are.
+fn both(a: Automaton, b: Automaton) -> Reply
+    ensures { λ r. ⌜ r ≡ bothReply a b ⌝ }
+{
+    Reply {
+        number: 0,
+        place: 0,
+        line: 0,
+        yes: false,
+        value: 0,
+        states: a.states,
+        initial: a.initial,
+        inputs: a.inputs,
+        outputs: a.outputs,
+        states_2: b.states,
+        initial_2: b.initial,
+        inputs_2: b.inputs,
+        outputs_2: b.outputs,
+    }
+}
+
+pub fn judged(c: Checked) -> Reply
+    ensures { λ r. ⌜ r ≡ judgedReply c ⌝ }
+{
+    match c {
+        Checked::Accepted => bare(0, 0, 0, false, 0),
+        Checked::Refused(r) => bare(r.number, r.table, 0, false, 0),
+    }
+}
+
+pub fn mirrored(c: Mirrored) -> Reply
+    ensures { λ r. ⌜ r ≡ mirroredReply c ⌝ }
+{
+    match c {
+        Mirrored::Mirror(h) => headed(false, 0, h),
+        Mirrored::Refused(r) => bare(r.number, r.table, 0, false, 0),
+    }
+}
+
+pub fn followed(state: usize, c: Followed) -> Reply
+    ensures { λ r. ⌜ r ≡ followedReply state c ⌝ }
+{
+    match c {
+        Followed::Moved(to) => bare(0, 0, 0, true, to),
+        Followed::NotNow => bare(0, 0, 0, false, state),
+        Followed::Refused(r) => bare(r.number, r.table, 0, false, state),
+    }
+}
+
+pub fn multiplied(c: Built) -> Reply
+    ensures { λ r. ⌜ r ≡ multipliedReply c ⌝ }
+{
+    match c {
+        Built::Product(h) => headed(false, 0, h),
+        Built::Refused(r) => bare(r.number, r.table, 0, false, 0),
+    }
+}
+
+pub fn fitted(c: Compatibility) -> Reply
+    ensures { λ r. ⌜ r ≡ fittedReply c ⌝ }
+{
+    match c {
+        Compatibility::Decided { compatible, rounds } => bare(0, 0, 0, compatible, rounds),
+        Compatibility::Refused(r) => bare(r.number, r.table, 0, false, 0),
+    }
+}
+
+pub fn composed(c: Composition) -> Reply
+    ensures { λ r. ⌜ r ≡ composedReply c ⌝ }
+{
+    match c {
+        Composition::Decided {
+            compatible,
+            header,
+            rounds,
+        } => headed(compatible, rounds, header),
+        Composition::Refused(r) => bare(r.number, r.table, 0, false, 0),
+    }
+}
+
+pub fn refined(c: Refined) -> Reply
+    ensures { λ r. ⌜ r ≡ refinedReply c ⌝ }
+{
+    match c {
+        Refined::Decided(refines) => bare(0, 0, 0, refines, 0),
+        Refined::Refused(r) => bare(r.number, r.table, 0, false, 0),
+    }
+}
+
+pub fn synthesized(c: Synthesis) -> Reply
+    ensures { λ r. ⌜ r ≡ synthesizedReply c ⌝ }
+{
+    match c {
+        Synthesis::Controller { header, rounds } => headed(true, rounds, header),
+        Synthesis::NoController { header, rounds } => headed(false, rounds, header),
+        Synthesis::Refused(r) => bare(r.number, r.table, 0, false, 0),
+    }
+}
+
+pub fn read_alone(c: Alone) -> Reply
+    ensures { λ r. ⌜ r ≡ aloneRead c ⌝ }
+{
+    match c {
+        Alone::Table(h) => headed(false, 0, h),
+        Alone::Refused(r) => bare(r.number, r.text, r.line, false, 0),
+    }
+}
+
+pub fn read_together(c: Together) -> Reply
+    ensures { λ r. ⌜ r ≡ togetherRead c ⌝ }
+{
+    match c {
+        Together::Tables {
+            component,
+            specification,
+        } => both(component, specification),
+        Together::Refused(r) => bare(r.number, r.text, r.line, false, 0),
+    }
+}
+
+pub fn written(c: Printed) -> Reply
+    ensures { λ r. ⌜ r ≡ writtenReply c ⌝ }
+{
+    match c {
+        Printed::Length(n) => bare(0, 0, 0, false, n),
+        Printed::Refused(r) => bare(r.number, r.table, 0, false, 0),
+    }
+}
