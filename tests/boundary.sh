@@ -2,39 +2,12 @@
 # The C boundary: compiles the header as C and as C++, runs the C tests, the comparison with a plain implementation and the
 # bench program, each as built for release and under the address and undefined behaviour sanitizers; the bench program under valgrind too. The
 # last line is 'N passed, M failed'. It is run after archives.sh.
-set -u
-unset CDPATH
-cd -- "$(dirname -- "$0")/.." || { echo "0 passed, 1 failed"; exit 1; }
-
-passed=0
-failed=0
-work=$(mktemp -d) || { echo "0 passed, 1 failed"; exit 1; }
-finish() {
-    rm -rf "$work"
-    echo "$passed passed, $failed failed"
-    [ "$failed" -eq 0 ] && [ "$passed" -gt 0 ]
-    exit $?
-}
-trap finish EXIT
-trap 'failed=$((failed + 1)); exit 1' HUP INT TERM
+stage=boundary
+. "$(dirname -- "$0")/counted.sh"
 
 archive=target/staticlib/libmoqresam.a
 strict=(-Wall -Wextra -Werror -pedantic -Iinclude)
 sanitize=(-g -O1 -fsanitize=address,undefined -fno-sanitize-recover=all)
-
-# try WHAT COMMAND..: passes if the command does; what it says is shown if not.
-try() {
-    local what=$1
-    shift
-    if "$@" >"$work/log" 2>&1; then
-        passed=$((passed + 1))
-        echo "boundary: $what: passed"
-    else
-        failed=$((failed + 1))
-        cat "$work/log"
-        echo "boundary: $what: FAILED"
-    fi
-}
 
 compile() {
     local to=$1 from=$2

@@ -61,8 +61,7 @@ counted() {
 stage "layout" rt fmt --check
 stage "claims" python3 tests/claims.py
 stage "readings" python3 tests/readings.py
-# More jobs than processors: rt starts a batch only when the last one has ended, and crates differ in length.
-counted "proofs" env RT_JOBS="${RT_JOBS:-6}" rt ci
+counted "proofs" rt ci
 stage "edits" python3 tests/edits.py
 counted "cases" python3 tests/cases.py
 counted "cases under valgrind" python3 tests/cases.py valgrind -q --error-exitcode=9

@@ -3,41 +3,14 @@
 # archives, and compares on random and on all small tables, texts and sequencers. The last line is 'N passed, M failed'.
 # It is run after `rt ci`, which leaves the program in target/bin, and archives.sh. With the argument `soak` it takes twenty times as many cases, and its seed
 # from the date; the seed is printed, and the number of a failed case beside it repeats the case (tests/reference/main.rs says how).
-set -u
-unset CDPATH
-cd -- "$(dirname -- "$0")/.." || { echo "0 passed, 1 failed"; exit 1; }
-
-passed=0
-failed=0
-work=$(mktemp -d) || { echo "0 passed, 1 failed"; exit 1; }
-finish() {
-    rm -rf "$work"
-    echo "$passed passed, $failed failed"
-    [ "$failed" -eq 0 ] && [ "$passed" -gt 0 ]
-    exit $?
-}
-trap finish EXIT
-trap 'failed=$((failed + 1)); exit 1' HUP INT TERM
+stage=reference
+. "$(dirname -- "$0")/counted.sh"
 
 case "${1-}" in
     "") seed=1 times=1 limit=120 ;;
     soak) seed=$(date +%s) times=20 limit=7200 ;;
     *) echo "usage: tests/reference.sh [soak]"; failed=1; exit 1 ;;
 esac
-
-# try WHAT COMMAND..: passes if the command does; what it says is shown if not.
-try() {
-    local what=$1
-    shift
-    if "$@" >"$work/log" 2>&1; then
-        passed=$((passed + 1))
-        echo "reference: $what: passed"
-    else
-        failed=$((failed + 1))
-        cat "$work/log"
-        echo "reference: $what: FAILED"
-    fi
-}
 
 compile() {
     rustc --edition 2021 -O -D warnings tests/reference/main.rs -L native=target/staticlib -l static=moqresam -l static=harness -o "$work/reference"
