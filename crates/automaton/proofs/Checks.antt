@@ -2,7 +2,8 @@
 use mathlib.Core.Path.{_≡_, sym, ap, _∙_}
 use mathlib.Core.Bool.{Bool, true, false, not, _&&_, cond, Bool·not-not}
 use mathlib.Core.List.{List}
-use Prim.Native.Nat.{ℕ, _*_, _%_, _≤_, _<_}
+use Prim.Native.Nat.{ℕ, _*_, _/_, _%_, _^_, _≤_, _<_}
+use native.Mathlib.Omega.{arith}
 use lib.Bits.{bitOr}
 use lib.Dec.{eqb, ltb, eqb→eq, nltb→le, not-T}
 use lib.ListN.{getD, length, take, drop, take-append-drop, length-replicate}
@@ -13,13 +14,14 @@ use Rattle.theory.specs.declared.Checked.{Checked}
 use Rattle.theory.specs.declared.Checked.the-variants.{Accepted, Refused}
 use Rattle.theory.specs.Bounded.{any}
 use Rattle.theory.specs.Table.{Table, table, member}
-use Rattle.theory.specs.Checks.{Check, first, refuse, declared, tableChecks, monitorChecks}
+use Rattle.theory.specs.Checks.{Check, first, refuse, declared, tableChecks}
 use Rattle.theory.proofs.Tests.{or-right}
 use Rattle.theory.proofs.Bounded.{any-cong, any-or}
 use Rattle.theory.proofs.Checks.{orElse, first-append, passed-first}
 use Rattle.theory.proofs.Sets.{member-or}
-use Rattle.automaton.specs.Cells.{Sized, stepless, least, faultAt, flawed}
-use Rattle.automaton.proofs.Least.{or-none, least-any}
+use Rattle.faults.specs.Cells.{least, faultAt, flawed}
+use Rattle.faults.proofs.Least.{or-none, least-any}
+use Rattle.automaton.specs.Cells.{Sized, stepless}
 
 -- ---- the first m checks of a list, then the others
 
@@ -76,38 +78,9 @@ module _ (i : ℕ) (a : Automaton) where
             shape-ok h =
                 rw (ne-eqb n 0 some, le-ltb 4096 n few, lt-leb n (a .initial) starts, ← shared, disjoint, many, eq-eqb count (n * 32) h)
 
-    -- ---- check_place: 11 and 12 after the same four
-
     -- The actions of both lists, as one set.
-    union : (d x : ℕ) → d ≡ bitOr (a .inputs) (a .outputs) → member d x ≡ declared bare x
+    pub union : (d x : ℕ) → d ≡ bitOr (a .inputs) (a .outputs) → member d x ≡ declared bare x
     union d x e = rw e (member-or (a .inputs) (a .outputs) x)
-
-    module _ (s x : ℕ) where
-      abbrev place : List Check
-      place = take 6 (monitorChecks i bare s x)
-
-      module _ (k : Checked) (shape : k ≡ first (take 4 (tableChecks i bare))) where
-        pub place-shape : (r : Refusal) → k ≡ Refused r → k ≡ first (take 6 (monitorChecks i bare s x))
-        unfolding tableChecks monitorChecks
-        place-shape r e = part-refused 4 place k shape r e
-
-        module _ (fine : k ≡ Accepted) where
-          own : first (take 6 (monitorChecks i bare s x)) ≡ first (drop 4 (take 6 (monitorChecks i bare s x)))
-          unfolding tableChecks monitorChecks
-          own = part-accepted 4 place k shape fine
-
-          pub place-11 : (y : Checked) → n ≤ s → y ≡ refuse 11 i → y ≡ first (take 6 (monitorChecks i bare s x))
-          unfolding first monitorChecks
-          place-11 y h e = e ∙ sym (own ∙ rw (le-leb n s h))
-
-          module _ (below : s < n) (d : ℕ) (lists : d ≡ bitOr (a .inputs) (a .outputs)) (b : Bool) (known : b ≡ member d x) where
-            pub place-12 : (y : Checked) → not b ≡ true → y ≡ refuse 12 i → y ≡ first (take 6 (monitorChecks i bare s x))
-            unfolding first monitorChecks
-            place-12 y h e = e ∙ sym (own ∙ rw (lt-leb n s below, ← union d x lists, ← known, h))
-
-            pub place-ok : not b ≡ false → Accepted ≡ first (take 6 (monitorChecks i bare s x))
-            unfolding first monitorChecks
-            place-ok h = sym (own ∙ rw (lt-leb n s below, ← union d x lists, ← known, h))
 
   -- ---- check
 
@@ -136,30 +109,37 @@ module _ (i : ℕ) (a : Automaton) where
               size = eqb→eq (length cells) (n * 32) (rw Bool·not-not at (not-T (not (eqb (length cells) (n * 32))) c4));
             }
 
+        -- They are whole rows.
+        whole : length cells / 32 * 32 ≡ n * 32
+        whole = omega (arith, sized .size)
+
+        pub narrow : n < 2 ^ 16
+        narrow = omega (arith, sized .few)
+
         undeclared : (d : ℕ) → d ≡ bitOr (a .inputs) (a .outputs)
             → any (n * 32) (λ k. ltb (getD cells k 65535) n && not (declared t (k % 32))) ≡ any (n * 32) (faultAt true n d cells)
         undeclared d lists = any-cong (n * 32) _ (faultAt true n d cells) (λ k l. rw (union 0 d (k % 32) lists))
 
-        pub check-sound : (d : ℕ) (b : Bool) → d ≡ bitOr (a .inputs) (a .outputs) → b ≡ not (any (n * 32) (flawed n d cells)) → b ≡ true
+        pub check-sound : (d : ℕ) (b : Bool) → d ≡ bitOr (a .inputs) (a .outputs) → b ≡ not (any (length cells / 32 * 32) (flawed n d cells)) → b ≡ true
             → Accepted ≡ first (tableChecks i t)
         unfolding first tableChecks
         check-sound d b lists told h =
             let five = faultAt false n d cells in
             let six = faultAt true n d cells in
-            let (e, f) = or-none (any (n * 32) five) (any (n * 32) six) (sym (any-or (n * 32) five six) ∙ not-true _ (sym told ∙ h)) in
+            let (e, f) = or-none (any (n * 32) five) (any (n * 32) six) (sym (any-or (n * 32) five six) ∙ not-true _ (sym (rw whole at told) ∙ h)) in
             sym (part-accepted 4 (tableChecks i t) k shape fine ∙ rw (e, undeclared d lists, f))
 
-        walked : (six : Bool) (d v : ℕ) → v ≡ least (n * 32) (faultAt six n d cells)
+        walked : (six : Bool) (d v : ℕ) → v ≡ least (length cells / 32 * 32) (faultAt six n d cells)
             → any (n * 32) (faultAt six n d cells) ≡ ltb v (length cells)
-        walked six d v e = rw (e, sized .size) (sym (least-any (faultAt six n d cells) (n * 32)))
+        walked six d v e = rw (e, whole, sized .size) (sym (least-any (faultAt six n d cells) (n * 32)))
 
-        module _ (d v : ℕ) (five : v ≡ least (n * 32) (faultAt false n d cells)) where
+        module _ (d v : ℕ) (five : v ≡ least (length cells / 32 * 32) (faultAt false n d cells)) where
           pub check-5 : (x : Checked) → v < length cells → x ≡ refuse 5 i → x ≡ first (tableChecks i t)
           unfolding first tableChecks
           check-5 x h e = e ∙ sym (part-accepted 4 (tableChecks i t) k shape fine ∙ rw (walked false d v five, lt-ltb v (length cells) h))
 
           module _ (sound : length cells ≤ v) (lists : d ≡ bitOr (a .inputs) (a .outputs)) (w : ℕ)
-              (six : w ≡ least (n * 32) (faultAt true n d cells)) where
+              (six : w ≡ least (length cells / 32 * 32) (faultAt true n d cells)) where
             rest : first (tableChecks i t) ≡ cond (ltb w (length cells)) (refuse 6 i) Accepted
             unfolding first tableChecks
             rest = part-accepted 4 (tableChecks i t) k shape fine ∙ rw (walked false d v five, le-ltb v (length cells) sound, undeclared d lists, walked true d w six)

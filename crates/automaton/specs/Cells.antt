@@ -1,17 +1,10 @@
--- Cells as the code takes them: the first at fault, and what the monitor's own says.
+-- Cells as the code takes them: how many.
 use mathlib.Core.Path.{_≡_}
-use mathlib.Core.Bool.{Bool, true, false, not, _&&_, _||_, cond}
 use mathlib.Core.List.{List}
-use Prim.Native.Nat.{ℕ, zero, suc, _*_, _%_, _≤_}
-use lib.Dec.{ltb}
-use lib.ListN.{getD, length, replicate}
+use Prim.Native.Nat.{ℕ, _*_, _≤_}
+use lib.ListN.{length, replicate}
 use Rattle.theory.specs.declared.Automaton.{Automaton}
-use Rattle.theory.specs.Bounded.{any}
-use Rattle.theory.specs.Table.{Table, table, member, decode}
-use Rattle.theory.specs.Checks.{stray}
-use Rattle.automaton.specs.declared.Followed.{Followed}
-use Rattle.automaton.specs.declared.Followed.the-variants as followed
-use Rattle.automaton.specs.Replies.{moved}
+use Rattle.theory.specs.Table.{Table, table}
 
 -- At most 4,096 rows of 32 cells, all there (checks 1 and 4).
 pub record Sized (n : ℕ) (cells : List ℕ) : Type 0 where
@@ -21,29 +14,3 @@ pub record Sized (n : ℕ) (cells : List ℕ) : Type 0 where
 -- A table with so many cells and no step: checks that look at no cell come out as for any table with so many.
 abbrev pub stepless : Automaton → ℕ → Table
 stepless a count = table a (replicate count 65535)
-
--- The least number below n that passes the test; n if none does.
-unfoldable pub least : ℕ → (ℕ → Bool) → ℕ
-least zero f = 0
-least (suc n) f = cond (any n f) (least n f) (cond (f n) n (suc n))
-
--- A cell of n states is at fault by check 5 (false) or by check 6 (true); acts has the actions of both lists.
-abbrev pub fault : Bool → ℕ → ℕ → ℕ → ℕ → Bool
-fault false n acts cell a = stray n cell
-fault true n acts cell a = ltb cell n && not (member acts a)
-
--- The cell at k is.
-abbrev pub faultAt : Bool → ℕ → ℕ → List ℕ → ℕ → Bool
-faultAt six n acts cells k = fault six n acts (getD cells k 65535) (k % 32)
-
--- It is by either.
-abbrev pub flawed : ℕ → ℕ → List ℕ → ℕ → Bool
-flawed n acts cells k = faultAt false n acts cells k || faultAt true n acts cells k
-
--- What a step for the action is to be below, so that no check finds fault with it.
-abbrev pub limit : ℕ → ℕ → ℕ → ℕ
-limit n acts a = cond (member acts a) n 0
-
--- Check 5 of the monitor's own cell, then its move.
-abbrev pub ownReply : ℕ → ℕ → Followed
-ownReply n cell = cond (stray n cell) (followed.Refused (record { number = 5; table = 1 })) (moved (decode n cell))

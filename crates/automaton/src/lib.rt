@@ -1,4 +1,4 @@
-// Calls on one interface automaton (document 01: table): judging, mirroring, following; and the checks that the calls on two begin with.
+// Calls on one interface automaton (document 01: table): judging and mirroring; and the checks that the follower and the calls on two begin with.
 ghost use mathlib.Core.Path.{_≡_};
 ghost use mathlib.Core.Bool.{_&&_};
 ghost use Prim.Native.Nat.{ℕ};
@@ -6,25 +6,16 @@ ghost use lib.Bits.{bitOr};
 ghost use lib.ListN.{take};
 ghost use Rattle.theory.specs.Bounded.{any};
 ghost use Rattle.theory.specs.Table.{table, member, mirrorHeader};
-ghost use Rattle.theory.specs.Checks.{first, refuse as refused, tableChecks, monitorChecks};
-ghost use Rattle.automaton.specs.Replies.{mirrorReply, followReply};
-ghost use Rattle.automaton.specs.Cells.{stepless, ownReply};
+ghost use Rattle.theory.specs.Checks.{first, refuse as refused, tableChecks};
+ghost use Rattle.automaton.specs.Replies.{mirrorReply};
+ghost use Rattle.automaton.specs.Cells.{stepless};
 use theory::Automaton;
 use theory::Checked;
 use theory::Refusal;
 
-mod faults;
-
 // The mirror's numbers; its cells are the automaton's own.
 pub enum Mirrored {
     Mirror(Automaton),
-    Refused(Refusal),
-}
-
-// The monitor's reply (document 01: the follower's): where it moved to, "not now", or a refusal.
-pub enum Followed {
-    Moved(usize),
-    NotNow,
     Refused(Refusal),
 }
 
@@ -57,7 +48,7 @@ fn overlap(s: u32, t: u32) -> bool
 }
 
 // Checks 1 to 4, those that look at no cell; `cells` is how many there are.
-fn check_shape(a: Automaton, cells: usize, number: u32) -> Checked
+pub fn check_shape(a: Automaton, cells: usize, number: u32) -> Checked
     ensures { λ r. ⌜ r ≡ first (take 4 (tableChecks number (stepless a cells))) ⌝ }
 {
     if a.states == 0 {
@@ -87,7 +78,7 @@ pub fn check(a: Automaton, cells: &[u16], number: u32) -> Checked
         return shape;
     };
     let acts = declared(a);
-    if faults::is_sound(cells, a.states, acts) {
+    if faults::is_sound(cells, a.states as u16, acts) {
         return Checked::Accepted;
     }
     if faults::walk(false, cells, a.states, acts) < cells.len() {
@@ -125,46 +116,5 @@ pub fn mirror(a: Automaton, cells: &[u16]) -> Mirrored
     match check(a, cells, 1) {
         Checked::Refused(r) => Mirrored::Refused(r),
         Checked::Accepted => Mirrored::Mirror(exchange(a)),
-    }
-}
-
-// The monitor's checks before it reads a cell: 1 to 4, 11, 12; `cells` is how many there are.
-pub fn check_place(a: Automaton, cells: usize, state: usize, action: usize) -> Checked
-    ensures { λ r. ⌜ r ≡ first (take 6 (monitorChecks 1 (stepless a cells) state action)) ⌝ }
-{
-    let shape = check_shape(a, cells, 1);
-    let Checked::Accepted = shape else {
-        return shape;
-    };
-    if a.states <= state {
-        return refuse(11, 1);
-    }
-    if !sets::contains(declared(a), action) {
-        return refuse(12, 1);
-    }
-    Checked::Accepted
-}
-
-// What the monitor's own cell says: a step, none, or check 5.
-pub fn advance(cell: u16, states: usize) -> Followed
-    ensures { λ r. ⌜ r ≡ ownReply states cell ⌝ }
-{
-    let next = cell as usize;
-    if next < states {
-        return Followed::Moved(next);
-    }
-    if next == 65535 {
-        return Followed::NotNow;
-    }
-    Followed::Refused(refusal(5, 1))
-}
-
-// One step of the monitor: checks 1 to 4, 11, 12, then 5 of its own cell.
-pub fn follow(a: Automaton, cells: &[u16], state: usize, action: usize) -> Followed
-    ensures { λ r. ⌜ r ≡ followReply (table a (now (cells .entry))) state action ⌝ }
-{
-    match check_place(a, cells.len(), state, action) {
-        Checked::Refused(r) => Followed::Refused(r),
-        Checked::Accepted => advance(cells[state * 32 + action], a.states),
     }
 }

@@ -1,4 +1,3 @@
-pub mod Laws
 pub mod Cells
 pub mod Answers
 pub mod Replies

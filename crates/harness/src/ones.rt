@@ -2,7 +2,8 @@
 ghost use mathlib.Core.Path.{_≡_};
 ghost use Rattle.theory.specs.Table.{keptCount};
 ghost use Rattle.theory.specs.Checks.{first, tableChecks};
-ghost use Rattle.automaton.specs.Replies.{mirrorReply, followReply};
+ghost use Rattle.automaton.specs.Replies.{mirrorReply};
+ghost use Rattle.follower.specs.Replies.{followReply};
 ghost use Rattle.counts.specs.Cells.{stepsIn, endsIn};
 ghost use Rattle.replies.specs.Replies.{judged, mirrored, followed};
 ghost use Rattle.harness.specs.Tables.{tableOf};
@@ -68,7 +69,7 @@ pub extern "C" fn harness_follow(
         inputs,
         outputs,
     };
-    replies::followed(state, automaton::follow(a, cells, state, signal))
+    replies::followed(state, follower::follow(a, cells, state, signal))
 }
 
 // How many bytes are 1.

@@ -1,7 +1,8 @@
 // The calls on two tables.
 ghost use mathlib.Core.Path.{_≡_};
 ghost use lib.ListN.{length};
-ghost use Rattle.composition.specs.Replies.{productReply, productCells, compatibilityReply, compatibilityFlags, compositionReply, compositionCells, compositionFlags};
+ghost use Rattle.compatibility.specs.Replies.{compatibilityReply, compatibilityFlags};
+ghost use Rattle.composition.specs.Replies.{productReply, productCells, compositionReply, compositionCells, compositionFlags};
 ghost use Rattle.refinement.specs.Replies.{refinementReply, refinementMarks};
 ghost use Rattle.synthesis.specs.Replies.{synthesisReply, synthesisCells, synthesisFlags};
 ghost use Rattle.replies.specs.Replies.{multiplied, fitted, composed, refined, synthesized};
@@ -72,7 +73,7 @@ pub extern "C" fn harness_fit(
         inputs: inputs_b,
         outputs: outputs_b,
     };
-    replies::fitted(composition::compatible(a, cells_a, b, cells_b, flags))
+    replies::fitted(compatibility::compatible(a, cells_a, b, cells_b, flags))
 }
 
 // The two composed; cells and flags are in the lent buffers.

@@ -2,8 +2,8 @@
 // What it writes is held to the file stdout.
 ghost use Prim.Native.Nat.{_≤_};
 ghost use Rattle.limits.specs.Room.{Room};
-use automaton::Followed;
-use composition::Compatibility;
+use compatibility::Compatibility;
+use follower::Followed;
 use libc::STDOUT_FILENO;
 use reader::Alone;
 use theory::Automaton;
@@ -67,7 +67,7 @@ fn fit(call: &[u8], n: usize, m: usize, bytes: usize)
     let one = [65535u16; 131072];
     let two = [65535u16; 131072];
     let mut flags = [7u8; 133120];
-    match composition::compatible(
+    match compatibility::compatible(
         of_states(n),
         &one[0..n * 32],
         counterpart(m),
@@ -83,7 +83,7 @@ fn fit(call: &[u8], n: usize, m: usize, bytes: usize)
 fn follow(call: &[u8], signal: usize) {
     let mut cells = [65535u16; 64];
     cells[31] = 1;
-    match automaton::follow(of_states(2), &cells, 0, signal) {
+    match follower::follow(of_states(2), &cells, 0, signal) {
         Followed::Moved(to) => {
             say(call);
             say_number(b": moved to ", to as u64);

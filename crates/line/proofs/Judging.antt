@@ -15,7 +15,7 @@ use Rattle.text.specs.declared.Number.the-variants.{Bad as NoNumber}
 use Rattle.text.specs.Fields.{split, upto, nameOk, value, numberOk, number}
 use Rattle.text.specs.Lines.{Entry, table, step, refused, judged, takesTable, takesDeclaration, takesStep, tableLine, declarationLine, stepLine}
 use Rattle.text.proofs.Split.{upto-le, split-last, split-cut, split-some}
-use Rattle.scan.proofs.Numbers.{reply-value, reply-bad}
+use Rattle.tokens.proofs.Numbers.{reply-value, reply-bad}
 use Rattle.line.specs.Located.{placed, isThree, threeFields, judgement}
 use Rattle.line.specs.declared.Record.the-variants.{Table, Declaration, Step}
 use Rattle.line.specs.declared.Parsed.{Parsed}

@@ -13,7 +13,7 @@ use Rattle.text.specs.Fields.{split, upto, same, nameOk, value, numberOk}
 use Rattle.text.specs.Lines.{Entry, table, declaration, step, refused, tableWord, roleWord, stepWord, judged, takesTable, takesDeclaration, takesStep, tableLine, declarationLine, stepLine, parse}
 use Rattle.text.proofs.Split.{upto-le, split-some, split-more, split-one}
 use Rattle.text.proofs.Names.{same-eq}
-use Rattle.scan.proofs.Numbers.{number-fits}
+use Rattle.tokens.proofs.Numbers.{number-fits}
 use Rattle.line.specs.Located.{afterKind, stepName, located, kindOf}
 use Rattle.line.specs.declared.Record.the-variants.{Table, Declaration, Step}
 use Rattle.line.specs.declared.Parsed.the-variants.{Fields, Refused}

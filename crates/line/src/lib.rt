@@ -140,13 +140,13 @@ fn judge(in_place: bool, name: &[u8], x: &[u8], y: &[u8]) -> Judged
     if !in_place {
         return Judged::Bad(15);
     }
-    if !scan::is_name(name) {
+    if !tokens::is_name(name) {
         return Judged::Bad(16);
     }
-    let Number::Value(a) = scan::number(x) else {
+    let Number::Value(a) = tokens::number(x) else {
         return Judged::Bad(17);
     };
-    let Number::Value(b) = scan::number(y) else {
+    let Number::Value(b) = tokens::number(y) else {
         return Judged::Bad(17);
     };
     Judged::Good(a, b)
@@ -182,7 +182,7 @@ fn declaration_line(rest: &[u8], role: Role, place: Place) -> Parsed
     if !takes_declaration(place) {
         return Parsed::Refused(15);
     }
-    if !scan::is_name(rest) {
+    if !tokens::is_name(rest) {
         return Parsed::Refused(16);
     }
     Parsed::Fields(Record::Declaration(role))

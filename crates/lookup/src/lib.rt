@@ -2,8 +2,6 @@
 ghost use mathlib.Core.Path.{_≡_};
 ghost use Rattle.text.specs.Lookup.{lookup, lookupNumber, lookupAlone, lookupNumberAlone};
 
-mod places;
-
 // The name that the signal has in two texts read together: the part of the module's or the plan's text where it was first declared; an
 // empty part where the lookup is refused.
 pub fn name<'a>(m: &'a [u8], p: &'a [u8], signal: usize) -> &'a [u8]

@@ -3,10 +3,10 @@ use mathlib.Core.Path.{_≡_, refl}
 use mathlib.Core.Bool.{Bool, true, false}
 use Prim.Native.Nat.{ℕ}
 use Rattle.theory.specs.declared.Refusal.{Refusal}
-use Rattle.automaton.specs.declared.Followed.{Followed}
-use Rattle.automaton.specs.declared.Followed.the-variants as followed
-use Rattle.composition.specs.declared.Compatibility.{Compatibility}
-use Rattle.composition.specs.declared.Compatibility.the-variants as compatibility
+use Rattle.follower.specs.declared.Followed.{Followed}
+use Rattle.follower.specs.declared.Followed.the-variants as followed
+use Rattle.compatibility.specs.declared.Compatibility.{Compatibility}
+use Rattle.compatibility.specs.declared.Compatibility.the-variants as compatibility
 use Rattle.refinement.specs.declared.Refined.{Refined}
 use Rattle.refinement.specs.declared.Refined.the-variants as refined
 use Rattle.moqresam.specs.declared.FitReply.{FitReply}

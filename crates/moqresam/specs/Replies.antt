@@ -1,10 +1,10 @@
 -- The replies of the C calls, from the library's: every field in every case.
 use Prim.Native.Nat.{ℕ}
 use mathlib.Core.Bool.{true, false}
-use Rattle.automaton.specs.declared.Followed.{Followed}
-use Rattle.automaton.specs.declared.Followed.the-variants as followed
-use Rattle.composition.specs.declared.Compatibility.{Compatibility}
-use Rattle.composition.specs.declared.Compatibility.the-variants as compatibility
+use Rattle.follower.specs.declared.Followed.{Followed}
+use Rattle.follower.specs.declared.Followed.the-variants as followed
+use Rattle.compatibility.specs.declared.Compatibility.{Compatibility}
+use Rattle.compatibility.specs.declared.Compatibility.the-variants as compatibility
 use Rattle.refinement.specs.declared.Refined.{Refined}
 use Rattle.refinement.specs.declared.Refined.the-variants as refined
 use Rattle.moqresam.specs.declared.FitReply.{FitReply}

@@ -2,13 +2,13 @@
 // byte first. include/moqresam.h says the same to C.
 ghost use mathlib.Core.Path.{_≡_};
 ghost use lib.ListN.{length};
-ghost use Rattle.automaton.specs.Replies.{followReply};
-ghost use Rattle.composition.specs.Replies.{compatibilityReply, compatibilityFlags};
+ghost use Rattle.follower.specs.Replies.{followReply};
+ghost use Rattle.compatibility.specs.Replies.{compatibilityReply, compatibilityFlags};
 ghost use Rattle.refinement.specs.Replies.{refinementReply, refinementMarks};
 ghost use Rattle.cells.specs.Bytes.{tableOfBytes};
 ghost use Rattle.moqresam.specs.Replies.{fitReply, refineReply, monitorReply, stateAfter};
-use automaton::Followed;
-use composition::Compatibility;
+use compatibility::Compatibility;
+use follower::Followed;
 use refinement::Refined;
 use theory::Automaton;
 
@@ -132,7 +132,7 @@ pub extern "C" fn moqresam_fit(
         inputs: inputs_b,
         outputs: outputs_b,
     };
-    fit_reply(packed::fit(a, cells_a, b, cells_b, flags))
+    fit_reply(packed_fit::fit(a, cells_a, b, cells_b, flags))
 }
 
 // Whether the first table refines the second; the marks are in the lent buffer.
@@ -165,7 +165,7 @@ pub extern "C" fn moqresam_refine(
         inputs: inputs_b,
         outputs: outputs_b,
     };
-    refine_reply(packed::refine(a, cells_a, b, cells_b, marks))
+    refine_reply(packed_refinement::refine(a, cells_a, b, cells_b, marks))
 }
 
 // The follower at a state, for a signal.

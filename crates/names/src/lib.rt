@@ -19,7 +19,7 @@ fn is_misnamed(signals: u32, names: &[&[u8]]) -> bool
         if names.len() <= s {
             return true;
         }
-        if !scan::is_name(names[s]) {
+        if !tokens::is_name(names[s]) {
             return true;
         }
         left = sets::rest(left);
@@ -63,7 +63,7 @@ fn is_repeated(signals: u32, names: &[&[u8]]) -> bool
 pub fn check(a: Automaton, name: &[u8], names: &[&[u8]]) -> Checked
     ensures { λ r. ⌜ r ≡ first (nameChecks a (now (name .entry)) (texts (now (names .entry)))) ⌝ }
 {
-    if !scan::is_name(name) {
+    if !tokens::is_name(name) {
         return automaton::refuse(16, 0);
     }
     let signals = automaton::declared(a);

@@ -8,12 +8,12 @@ use Rattle.theory.specs.declared.Checked.{Checked}
 use Rattle.theory.specs.declared.Checked.the-variants as checks
 use Rattle.automaton.specs.declared.Mirrored.{Mirrored}
 use Rattle.automaton.specs.declared.Mirrored.the-variants as mirror
-use Rattle.automaton.specs.declared.Followed.{Followed}
-use Rattle.automaton.specs.declared.Followed.the-variants as follow
+use Rattle.follower.specs.declared.Followed.{Followed}
+use Rattle.follower.specs.declared.Followed.the-variants as follow
 use Rattle.composition.specs.declared.Built.{Built}
 use Rattle.composition.specs.declared.Built.the-variants as product
-use Rattle.composition.specs.declared.Compatibility.{Compatibility}
-use Rattle.composition.specs.declared.Compatibility.the-variants as fit
+use Rattle.compatibility.specs.declared.Compatibility.{Compatibility}
+use Rattle.compatibility.specs.declared.Compatibility.the-variants as fit
 use Rattle.composition.specs.declared.Composition.{Composition}
 use Rattle.composition.specs.declared.Composition.the-variants as compose
 use Rattle.refinement.specs.declared.Refined.{Refined}

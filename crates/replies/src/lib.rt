@@ -1,11 +1,11 @@
 // The library's replies as one record, which the C ABI can hand back: for tests and benchmarks.
 ghost use mathlib.Core.Path.{_≡_};
 ghost use Rattle.replies.specs.Replies.{bareReply, headedReply, bothReply, judged as judgedReply, mirrored as mirroredReply, followed as followedReply, multiplied as multipliedReply, fitted as fittedReply, composed as composedReply, refined as refinedReply, synthesized as synthesizedReply, aloneRead, togetherRead, written as writtenReply};
-use automaton::Followed;
 use automaton::Mirrored;
+use compatibility::Compatibility;
 use composition::Built;
-use composition::Compatibility;
 use composition::Composition;
+use follower::Followed;
 use reader::Alone;
 use reader::Together;
 use refinement::Refined;

@@ -2,8 +2,7 @@
 ghost use mathlib.Core.Path.{_≡_};
 ghost use Prim.Native.Nat.{_-_};
 ghost use lib.ListN.{take, drop};
-ghost use Rattle.text.specs.Fields.{upto, same, nameByte, nameOk, number as numberOf};
-use text::Number;
+ghost use Rattle.text.specs.Fields.{upto, same};
 
 // How many bytes stand before the first b; all where there is none.
 pub fn find(s: &[u8], b: u8) -> usize
@@ -47,70 +46,6 @@ pub fn equal(a: &[u8], b: &[u8]) -> bool
         return false;
     }
     alike(a, b)
-}
-
-// A letter, a digit or an underscore of ASCII.
-fn is_name_byte(x: u8) -> bool
-    ensures { λ r. ⌜ r ≡ nameByte x ⌝ }
-{
-    match x {
-        b'0'..=b'9' => true,
-        b'A'..=b'Z' => true,
-        b'a'..=b'z' => true,
-        b'_' => true,
-        _ => false,
-    }
-}
-
-// The name rule.
-pub fn is_name(s: &[u8]) -> bool
-    ensures { λ r. ⌜ r ≡ nameOk (now (s .entry)) ⌝ }
-{
-    if s.len() == 0 {
-        return false;
-    }
-    if 16 < s.len() {
-        return false;
-    }
-    for i in 0..s.len() {
-        if !is_name_byte(s[i]) {
-            return false;
-        }
-    }
-    true
-}
-
-// The number rule, with the number's value.
-pub fn number(s: &[u8]) -> Number
-    ensures { λ r. ⌜ r ≡ numberOf (now (s .entry)) ⌝ }
-{
-    if s.len() == 0 {
-        return Number::Bad;
-    }
-    if 5 < s.len() {
-        return Number::Bad;
-    }
-    if s[0] == b'0' {
-        if s.len() == 1 {
-            return Number::Value(0);
-        }
-        return Number::Bad;
-    }
-    let mut value: usize = 0;
-    for i in 0..s.len() {
-        let digit = s[i] as usize;
-        if digit < 48 {
-            return Number::Bad;
-        }
-        if 57 < digit {
-            return Number::Bad;
-        }
-        value = value * 10 + (digit - 48);
-        if 65535 < value {
-            return Number::Bad;
-        }
-    }
-    Number::Value(value)
 }
 
 // What stands before the byte `at`; all where there is none.

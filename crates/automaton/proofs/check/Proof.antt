@@ -1,4 +1,4 @@
-use Rattle.automaton.proofs.Checks.{check-shape, sized, check-sound, check-5, check-6, check-ok}
+use Rattle.automaton.proofs.Checks.{check-shape, narrow, check-sound, check-5, check-6, check-ok}
 use borrow.Author.Needs.{needs}
 use Rattle.automaton.proofs.check.Statement.{statement}
 use Rattle.automaton.proofs.check.Tie as tie
@@ -18,14 +18,17 @@ returns c = search (check-shape, needs)
 declared-requires : tie.Need-declared-requires
 declared-requires c κs = search needs
 
+cast-is-sound : tie.Need-cast-is-sound
+cast-is-sound c = record { fits = search (narrow, needs) }
+
 is-sound-requires : tie.Need-is-sound-requires
-is-sound-requires c κs = search (sized, needs)
+is-sound-requires c κs = search needs
 
 returns-2 : tie.Need-returns-2
 returns-2 c = search (check-sound, needs)
 
 walk-requires : tie.Need-walk-requires
-walk-requires c κs = search (sized, needs)
+walk-requires c κs = search needs
 
 refuse-requires : tie.Need-refuse-requires
 refuse-requires c κs = search needs
@@ -34,7 +37,7 @@ returns-3 : tie.Need-returns-3
 returns-3 c = search (check-5, needs)
 
 walk-requires-2 : tie.Need-walk-requires-2
-walk-requires-2 c κs = search (sized, needs)
+walk-requires-2 c κs = search needs
 
 refuse-requires-2 : tie.Need-refuse-requires-2
 refuse-requires-2 c κs = search needs
@@ -54,6 +57,7 @@ check-spec =
     enum-told-2
     returns
     declared-requires
+    cast-is-sound
     is-sound-requires
     returns-2
     walk-requires

@@ -43,8 +43,8 @@ use denote.Triple.Table.{entered, cited}
 use denote.Triple.Walked.{says, Stays, stay-ref, stay-none, stay-none-slice, walkOf, AllGo, goes-ref, goes-none, goes-none-slice, Walks, ends-at, walked, walk-meets}
 use denote.Exit.{yes}
 use denote.Signature.{plain}
-use Rattle.automaton.specs.declared.Followed.{Followed}
-use Rattle.automaton.specs.Replies.{followReply}
+use Rattle.follower.specs.declared.Followed.{Followed}
+use Rattle.follower.specs.Replies.{followReply}
 use Rattle.cells.specs.Bytes.{tableOfBytes}
 use Rattle.moqresam.specs.Replies.{monitorReply}
 use Rattle.moqresam.specs.declared.Follower.{Follower}

@@ -1,0 +1,56 @@
+-- The least number that passes a test, and how a walk comes to it.
+use mathlib.Core.Path.{_≡_, refl}
+use mathlib.Core.Logic.{inl, inr}
+use mathlib.Core.Bool.{Bool, true, false, _||_, cond}
+use Prim.Native.Nat.{ℕ, zero, suc, _+_, _<_}
+use native.Mathlib.Numerals.{add-one}
+use native.Mathlib.Nat.{not-suc-le-zero, le-of-suc-le-suc, eq-or-lt-of-le}
+use native.Mathlib.Omega.{arith}
+use lib.Dec.{ltb}
+use borrow.Author.Tests.{lt-ltb, le-ltb, ltb-true}
+use Rattle.theory.specs.Bounded.{any}
+use Rattle.theory.proofs.Tests.{same-test}
+use Rattle.theory.proofs.Bounded.{at-any}
+use Rattle.faults.specs.Cells.{least}
+
+pub or-none : (b c : Bool) → (b || c) ≡ false → (b ≡ false) × (c ≡ false)
+or-none true c e = (e, cc)
+or-none false c e = (refl, e)
+
+one-more : (n m : ℕ) (b c : Bool) → ltb m n ≡ b → ltb (cond b m (cond c n (suc n))) (suc n) ≡ (b || c)
+one-more n m true c e = lt-ltb m (suc n) (omega (arith, ltb-true m n e))
+one-more n m false true e = lt-ltb n (suc n) (omega arith)
+one-more n m false false e = le-ltb (suc n) (suc n) (omega arith)
+
+module _ (f : ℕ → Bool) where
+  -- Some number passes exactly if the least one found is below the bound.
+  pub least-any : (n : ℕ) → ltb (least n f) n ≡ any n f
+  unfolding least any
+  least-any zero = refl
+  least-any (suc n) = one-more n (least n f) (any n f) (f n) (least-any n)
+
+  -- None below k passes, nor does k: none below k + 1 does.
+  pub pass : (k : ℕ) → any k f ≡ false → f k ≡ false → any (k + 1) f ≡ false
+  unfolding any
+  pass k e g = rw (add-one k, e, g)
+
+  -- The same bound, written otherwise.
+  pub reach : (k j : ℕ) → any k f ≡ false → k ≡ j → any j f ≡ false
+  reach k j e h = rw (← h) e
+
+  -- None below k passes, and k does.
+  pub found : (n k : ℕ) → k < n → any k f ≡ false → f k ≡ true → k ≡ least n f
+  unfolding least
+  found zero k l e g = absurd (not-suc-le-zero l)
+  found (suc n) k l e g = elim (eq-or-lt-of-le (le-of-suc-le-suc l)) [
+    | inl q ↦ rw (← q, e, g)
+    | inr m ↦
+        let some : any n f ≡ true = same-test (λ t. tt) (λ t. at-any n f k m (rw g tt)) in
+        rw some (found n k m e g)
+  ]
+
+  -- None passes.
+  pub passed : (n : ℕ) → any n f ≡ false → n ≡ least n f
+  unfolding least any
+  passed zero e = refl
+  passed (suc n) e = let (p, q) = or-none (any n f) (f n) e in rw (p, q)

@@ -1,0 +1,58 @@
+// The monitor (document 01: the follower): one step of it, and the two parts of a step, for callers that hold the cells otherwise.
+ghost use mathlib.Core.Path.{_≡_};
+ghost use lib.ListN.{take};
+ghost use Rattle.theory.specs.Table.{table};
+ghost use Rattle.theory.specs.Checks.{first, monitorChecks};
+ghost use Rattle.automaton.specs.Cells.{stepless};
+ghost use Rattle.follower.specs.Replies.{ownReply, followReply};
+use theory::Automaton;
+use theory::Checked;
+use theory::Refusal;
+
+// The monitor's reply (document 01: the follower's): where it moved to, "not now", or a refusal.
+pub enum Followed {
+    Moved(usize),
+    NotNow,
+    Refused(Refusal),
+}
+
+// The monitor's checks before it reads a cell: 1 to 4, 11, 12; `cells` is how many there are.
+pub fn check_place(a: Automaton, cells: usize, state: usize, action: usize) -> Checked
+    ensures { λ r. ⌜ r ≡ first (take 6 (monitorChecks 1 (stepless a cells) state action)) ⌝ }
+{
+    let shape = automaton::check_shape(a, cells, 1);
+    let Checked::Accepted = shape else {
+        return shape;
+    };
+    if a.states <= state {
+        return automaton::refuse(11, 1);
+    }
+    if !sets::contains(automaton::declared(a), action) {
+        return automaton::refuse(12, 1);
+    }
+    Checked::Accepted
+}
+
+// What the monitor's own cell says: a step, none, or check 5.
+pub fn advance(cell: u16, states: usize) -> Followed
+    ensures { λ r. ⌜ r ≡ ownReply states cell ⌝ }
+{
+    let next = cell as usize;
+    if next < states {
+        return Followed::Moved(next);
+    }
+    if next == 65535 {
+        return Followed::NotNow;
+    }
+    Followed::Refused(automaton::refusal(5, 1))
+}
+
+// One step of the monitor: checks 1 to 4, 11, 12, then 5 of its own cell.
+pub fn follow(a: Automaton, cells: &[u16], state: usize, action: usize) -> Followed
+    ensures { λ r. ⌜ r ≡ followReply (table a (now (cells .entry))) state action ⌝ }
+{
+    match check_place(a, cells.len(), state, action) {
+        Checked::Refused(r) => Followed::Refused(r),
+        Checked::Accepted => advance(cells[state * 32 + action], a.states),
+    }
+}

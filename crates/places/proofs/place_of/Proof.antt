@@ -1,0 +1,23 @@
+use mathlib.Core.Path.{refl}
+use Rattle.places.proofs.Places.{place-held}
+use borrow.Author.Needs.{needs}
+use Rattle.places.proofs.place_of.Statement.{statement}
+use Rattle.places.proofs.place_of.Tie as tie
+
+mul-name : tie.Need-mul-name
+mul-name c = search needs
+
+array-copy-out-name : tie.Need-array-copy-out-name
+array-copy-out-name c = search needs
+
+cast-from : tie.Need-cast-from
+cast-from c = search needs
+
+bytes-of-requires : tie.Need-bytes-of-requires
+bytes-of-requires c κs = search needs
+
+returns : tie.Need-returns
+returns c = place-held _ _ _ _ (search needs) _ _ refl _ (c .bytes-of .ensures)
+
+pub place-of-spec : {M : Type 1} → statement M
+place-of-spec = tie.close (tie.spec mul-name array-copy-out-name cast-from bytes-of-requires returns)
