@@ -1,9 +1,13 @@
 #!/usr/bin/env python3
 """Holds docs/CLAIMS.md to the tree: every file and every name that it cites is there, every must-fail edit that it cites exists, every edit
-of the tree is cited, and no folder of crates/ is left out of crates.txt. The exit status says so."""
+of the tree is cited, every function that another crate or C can call has two edits or more, and no folder of crates/ is left out of
+crates.txt. The exit status says so."""
 import os
 import re
 import sys
+
+# The tests' own crates, which are no part of the library.
+INSTRUMENTS = ("harness", "replies")
 
 TOP = os.path.join(os.path.dirname(os.path.abspath(__file__)), "..")
 
@@ -34,6 +38,30 @@ def must_fail_files(faults):
     return found
 
 
+def public_functions(crate):
+    """The functions of a library that another crate or C can call: those of its root, and those that the root hands on."""
+    root = f"crates/{crate}/src/lib.rt"
+    if crate in INSTRUMENTS or not os.path.exists(root):
+        return set()
+    text = open(root, encoding="utf-8").read()
+    handed_on = re.findall(r"(?m)^pub use [a-z_]+::([a-z_]+);$", text)
+    return set(re.findall(r"(?m)^pub (?:extern \"C\" )?fn (\w+)", text)) | set(handed_on)
+
+
+def functions_tried(lines):
+    """For each crate and function, how many rows of the list of edits name it as the one whose contract fails."""
+    tried, last = {}, ""
+    for line in lines:
+        row = re.match(r"\| edit [a-z_]+/[a-z0-9_]+ \| [^|]* \| ([^|]*) \|", line)
+        if row is None:
+            continue
+        last = last if row[1] == "the same" else row[1]
+        for crate, names in re.findall(r"`crates/([a-z_]+)/src/\w+\.rt`: ((?:`\w+`(?:, (?:and so of )?)?)+)", last):
+            for name in re.findall(r"\w+", names.replace("and so of", "")):
+                tried[crate, name] = tried.get((crate, name), 0) + 1
+    return tried
+
+
 def main():
     os.chdir(TOP)
     lines = open("docs/CLAIMS.md", encoding="utf-8").read().split("\n")
@@ -60,6 +88,11 @@ def main():
     for path in must_fail_files(faults):
         if path not in cited:
             faults.append(f"{path}: not cited in docs/CLAIMS.md")
+    tried = functions_tried(lines)
+    for crate in sorted(os.listdir("crates")):
+        for name in sorted(public_functions(crate)):
+            if tried.get((crate, name), 0) < 2:
+                faults.append(f"crates/{crate}: {name} has no two edits in the list of docs/CLAIMS.md")
     for fault in faults:
         print(fault)
     print(f"docs/CLAIMS.md: {held} citations hold, {len(faults)} do not")

@@ -9,7 +9,7 @@ ghost use Rattle.reader.specs.Replies.{aloneReply, togetherReply};
 ghost use Rattle.emit.specs.Buffer.{stored};
 ghost use Rattle.names.specs.Names.{texts};
 ghost use Rattle.writer.specs.Replies.{writerReply};
-ghost use Rattle.report.specs.Report.{roomOf, Reported, cellsLeft, flagsLeft};
+ghost use Rattle.report.specs.Report.{Told};
 ghost use Rattle.replies.specs.Replies.{aloneRead, togetherRead, named, written};
 ghost use Rattle.harness.specs.Tables.{tableOf};
 use replies::Reply;
@@ -96,11 +96,7 @@ pub extern "C" fn harness_report<'a>(
     flags: &mut [u8],
     out: &mut [u8],
 ) -> usize
-    ensures { λ r. ⌜ Reported (now (m .entry)) (now (p .entry)) (length (now (cm .entry))) (length (now (cp .entry))) (roomOf (length (now (cells .entry))) (length (now (flags .entry)))) (now (out .entry)) r (now (out .exit)) ⌝ }
-    ensures { λ r. ⌜ now (cm .exit) ≡ cellsFirst (length (now (cm .entry))) (readBoth (length (now (cm .entry))) (now (m .entry)) (length (now (cp .entry))) (now (p .entry))) ⌝ }
-    ensures { λ r. ⌜ now (cp .exit) ≡ cellsSecond (length (now (cp .entry))) (readBoth (length (now (cm .entry))) (now (m .entry)) (length (now (cp .entry))) (now (p .entry))) ⌝ }
-    ensures { λ r. ⌜ now (cells .exit) ≡ cellsLeft (now (cells .entry)) (length (now (flags .entry))) (readBoth (length (now (cm .entry))) (now (m .entry)) (length (now (cp .entry))) (now (p .entry))) ⌝ }
-    ensures { λ r. ⌜ now (flags .exit) ≡ flagsLeft (length (now (cells .entry))) (now (flags .entry)) (readBoth (length (now (cm .entry))) (now (m .entry)) (length (now (cp .entry))) (now (p .entry))) ⌝ }
+    ensures { λ r. ⌜ Told (now (m .entry)) (now (p .entry)) (now (cm .entry)) (now (cp .entry)) (now (cells .entry)) (now (flags .entry)) (now (out .entry)) r (now (cm .exit)) (now (cp .exit)) (now (cells .exit)) (now (flags .exit)) (now (out .exit)) ⌝ }
     ensures { λ r. ⌜ r ≤ 65608 ⌝ }
 {
     report::report(m, p, cm, cp, cells, flags, out)

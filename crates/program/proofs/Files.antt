@@ -7,7 +7,8 @@ use Rattle.emit.proofs.Buffer.{Puts}
 use Rattle.files.specs.declared.File.{File}
 use Rattle.files.specs.declared.File.the-variants.{Bytes, Unreadable}
 use Rattle.printout.specs.Lines.{refusalText}
-use Rattle.program.specs.Run.{Unread, Told, Ran}
+use Rattle.report.specs.Report.{Told}
+use Rattle.program.specs.Run.{Unread, Ran}
 
 module _ (first second : File) (m p cm cp cells flags out : List ℕ) (e : ℕ) (out′ : List ℕ) where
   unread : (file : ℕ) → Puts out 0 (refusalText file 24 0) e out′ → Unread file cm cp cells flags out e cm cp cells flags out′

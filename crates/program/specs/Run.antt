@@ -4,12 +4,11 @@ use mathlib.Core.Path.{_≡_}
 use mathlib.Core.List.{List}
 use Prim.Native.Nat.{ℕ}
 use lib.ListN.{length, take}
-use Rattle.text.specs.Reading.{readBoth, cellsFirst, cellsSecond}
 use Rattle.emit.specs.Buffer.{stored, after}
 use Rattle.files.specs.declared.File.{File}
 use Rattle.files.specs.declared.File.the-variants.{Bytes, Unreadable}
 use Rattle.printout.specs.Lines.{refusalText}
-use Rattle.report.specs.Report.{roomOf, Reported, cellsLeft, flagsLeft}
+use Rattle.report.specs.Report.{Told}
 
 -- A file that cannot be read: one line with 24, and nothing else is touched.
 pub record Unread (file : ℕ) (cm cp cells flags bytes : List ℕ) (end : ℕ) (cm′ cp′ cells′ flags′ bytes′ : List ℕ) : Type 0 where
@@ -19,14 +18,6 @@ pub record Unread (file : ℕ) (cm cp cells flags bytes : List ℕ) (end : ℕ) 
   pub plan-kept : cp′ ≡ cp
   pub cells-kept : cells′ ≡ cells
   pub flags-kept : flags′ ≡ flags
-
--- Two texts: the report of them.
-pub record Told (m p cm cp cells flags bytes : List ℕ) (end : ℕ) (cm′ cp′ cells′ flags′ bytes′ : List ℕ) : Type 0 where
-  pub told : Reported m p (length cm) (length cp) (roomOf (length cells) (length flags)) bytes end bytes′
-  pub module-left : cm′ ≡ cellsFirst (length cm) (readBoth (length cm) m (length cp) p)
-  pub plan-left : cp′ ≡ cellsSecond (length cp) (readBoth (length cm) m (length cp) p)
-  pub cells-left : cells′ ≡ cellsLeft cells (length flags) (readBoth (length cm) m (length cp) p)
-  pub flags-left : flags′ ≡ flagsLeft (length cells) flags (readBoth (length cm) m (length cp) p)
 
 -- 24 for the first unreadable one before any text check. Of a file that was read, the text is as many of the lent bytes as were read.
 abbrev pub Ran : File → File → (m p cm cp cells flags bytes : List ℕ) (end : ℕ) (cm′ cp′ cells′ flags′ bytes′ : List ℕ) → Type 0

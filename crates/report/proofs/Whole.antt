@@ -55,18 +55,18 @@ front (Refused r) l l′ j = take-append-drop j l
 pub few-pairs : (a b : Automaton) (ca cb : List ℕ) → Holds a ca → Holds b cb → a .states * b .states ≤ 16777216
 few-pairs a b ca cb h k = mul-le-mul (h .few) (k .few)
 
-module _ (a b : Table) (cells flags : List ℕ) (lent room n : ℕ) (lent-is : lent ≡ lesserOf (length cells / 32) (length flags))
-    (room-is : room ≡ lesserOf lent 1024) (n-is : n ≡ lesserOf (a .header .states * b .header .states) room) where
-  n-lent : n ≡ lentPairs a b (roomOf (length cells) (length flags))
-  n-lent = n-is ∙ ap (lesserOf (a .header .states * b .header .states)) (room-is ∙ ap (λ k. lesserOf k 1024) lent-is)
+pub lent-is : (a b cells flags lent room n : ℕ) → lent ≡ lesserOf (cells / 32) flags → room ≡ lesserOf lent 1024 → n ≡ lesserOf (a * b) room
+    → n ≡ lesserOf (a * b) (roomOf cells flags)
+lent-is a b cells flags lent room n e f g = g ∙ ap (lesserOf (a * b)) (f ∙ ap (λ k. lesserOf k 1024) e)
 
+module _ (a b : Table) (cells flags : List ℕ) (n : ℕ) (n-lent : n ≡ lentPairs a b (roomOf (length cells) (length flags))) where
   small : (n ≤ length flags) × (n ≤ length cells / 32)
   small =
       let x = lesser-le (length cells / 32) (length flags) in
-      let y = lesser-le lent 1024 in
-      let z = lesser-le (a .header .states * b .header .states) room in
-      let f : n ≤ length flags = omega (arith, n-is, room-is, lent-is, x, y, z) in
-      let g : n ≤ length cells / 32 = omega (arith, n-is, room-is, lent-is, x, y, z) in
+      let y = lesser-le (lesserOf (length cells / 32) (length flags)) 1024 in
+      let z = lesser-le (a .header .states * b .header .states) (roomOf (length cells) (length flags)) in
+      let f : n ≤ length flags = omega (arith, n-lent, x, y, z) in
+      let g : n ≤ length cells / 32 = omega (arith, n-lent, x, y, z) in
       (f, g)
 
   pub lent-flags : n ≤ length flags
@@ -105,15 +105,15 @@ module _ (a b : Table) (cells flags : List ℕ) (lent room n : ℕ) (lent-is : l
   }
 
 -- The same with the parts as code lends them.
-pub made-of-parts : (m p : List ℕ) (a b : Automaton) (ca cb cells flags : List ℕ) (lent room n : ℕ) → lent ≡ lesserOf (length cells / 32) (length flags)
-    → room ≡ lesserOf lent 1024 → n ≡ lesserOf (a .states * b .states) room → (u v i j : ℕ) → u ≡ a .states * 32 → v ≡ b .states * 32 → i ≡ n * 32 → j ≡ n
+pub made-of-parts : (m p : List ℕ) (a b : Automaton) (ca cb cells flags : List ℕ) (n : ℕ) → n ≡ lesserOf (a .states * b .states) (roomOf (length cells) (length flags))
+    → (u v i j : ℕ) → u ≡ a .states * 32 → v ≡ b .states * 32 → i ≡ n * 32 → j ≡ n
     → (out : List ℕ) (e : ℕ) (cells′ flags′ out′ : List ℕ)
     → (InOrder (controller (table a (take u ca)) (table b (take v cb))) (pairsText m p (table a (take u ca)) (table b (take v cb)) (length (take i cells)) (length (take j flags))) out e out′)
     × ((cells′ ≡ synthesisCells (table a (take u ca)) (table b (take v cb)) (take i cells) (length (take j flags)))
     × (flags′ ≡ synthesisFlags (table a (take u ca)) (table b (take v cb)) (length (take i cells)) (take j flags)))
     → Makes m p (table a (take (a .states * 32) ca)) (table b (take (b .states * 32) cb)) cells flags out e (cells′ ++ drop i cells) (flags′ ++ drop j flags) out′
-made-of-parts m p a b ca cb cells flags lent room n lent-is room-is n-is u v i j eu ev ei ej out e cells′ flags′ out′ w =
-    rw (← eu, ← ev) (made-in (table a (take u ca)) (table b (take v cb)) cells flags lent room n lent-is room-is n-is m p i j ei ej out e cells′ flags′ out′ w)
+made-of-parts m p a b ca cb cells flags n n-is u v i j eu ev ei ej out e cells′ flags′ out′ w =
+    rw (← eu, ← ev) (made-in (table a (take u ca)) (table b (take v cb)) cells flags n n-is m p i j ei ej out e cells′ flags′ out′ w)
 
 -- ---- what was read
 

@@ -1,29 +1,20 @@
 -- What the bench program prints for two texts (01, "The program and one full run"). m is the module's text, p the plan's.
 use mathlib.Core.Path.{_≡_}
 use mathlib.Core.Bool.{cond}
-use mathlib.Core.List.{List, [], _∷_, _++_}
+use mathlib.Core.List.{List, [], _++_}
 use Prim.Native.Nat.{ℕ, _*_, _/_}
 use lib.Dec.{leb}
 use lib.ListN.{length, take, drop}
 use Rattle.theory.specs.declared.Automaton.{Automaton}
-use Rattle.theory.specs.Bounded.{tabulate}
 use Rattle.theory.specs.Table.{Table, table, synthesis, controller, keptCount, stepCount, endCount}
 use Rattle.theory.specs.Checks.{first, unlessRefused, synthesisChecks}
-use Rattle.text.specs.Reading.{Reading, Joint, both, neither, readBoth}
+use Rattle.text.specs.Reading.{Reading, Joint, both, neither, readBoth, cellsFirst, cellsSecond}
 use Rattle.text.specs.Writing.{textWith, Order, writerChecks}
-use Rattle.text.specs.Lookup.{lookup}
 use Rattle.emit.specs.Buffer.{stored, after}
+use Rattle.labels.specs.Names.{sequencerWord, signalNames}
 use Rattle.printout.specs.Lines.{refusalText, figures}
 
 -- ---- two tables
-
--- `sequencer`.
-abbrev pub sequencerWord : List ℕ
-sequencerWord = 115 ∷ 101 ∷ 113 ∷ 117 ∷ 101 ∷ 110 ∷ 99 ∷ 101 ∷ 114 ∷ []
-
--- Signals have the names that the two texts gave them.
-unfoldable pub signalNames : List ℕ → List ℕ → List (List ℕ)
-signalNames m p = tabulate (λ a. lookup m p a .name) 0 32
 
 -- The table that was read: the lent cells beyond it are no part of it.
 abbrev pub tableRead : Reading → Table
@@ -96,3 +87,12 @@ cellsLeft cells flags (neither r) = cells
 abbrev pub flagsLeft : ℕ → List ℕ → Joint → List ℕ
 flagsLeft cells flags (both x y) = flagsMade (tableRead x) (tableRead y) cells flags
 flagsLeft cells flags (neither r) = flags
+
+-- ---- the call: the report of two texts, and what is left in the lent buffers, cm and cp the cells of module and plan
+
+pub record Told (m p cm cp cells flags bytes : List ℕ) (end : ℕ) (cm′ cp′ cells′ flags′ bytes′ : List ℕ) : Type 0 where
+  pub told : Reported m p (length cm) (length cp) (roomOf (length cells) (length flags)) bytes end bytes′
+  pub module-left : cm′ ≡ cellsFirst (length cm) (readBoth (length cm) m (length cp) p)
+  pub plan-left : cp′ ≡ cellsSecond (length cp) (readBoth (length cm) m (length cp) p)
+  pub cells-left : cells′ ≡ cellsLeft cells (length flags) (readBoth (length cm) m (length cp) p)
+  pub flags-left : flags′ ≡ flagsLeft (length cells) flags (readBoth (length cm) m (length cp) p)

@@ -4,66 +4,15 @@ ghost use mathlib.Core.Bool.{true};
 ghost use Prim.Native.Nat.{_*_, _≤_};
 ghost use lib.ListN.{length, take};
 ghost use Rattle.theory.specs.Table.{table, controller};
-ghost use Rattle.text.specs.Reading.{readBoth, cellsFirst, cellsSecond};
-ghost use Rattle.text.specs.Writing.{Written};
 ghost use Rattle.emit.specs.Buffer.{after, stored};
-ghost use Rattle.writer.specs.Replies.{writerReply};
 ghost use Rattle.synthesis.specs.Replies.{synthesisCells, synthesisFlags};
-ghost use Rattle.report.specs.Report.{sequencerWord, signalNames, lesserOf, roomOf, Reported, cellsLeft, flagsLeft};
+ghost use Rattle.report.specs.Report.{lesserOf, roomOf, Told};
 ghost use Rattle.report.specs.Parts.{sixOf, InOrder, WithText, tableTold, toldText, pairsText, Holds, Makes};
 use printout::refusal_line;
 use reader::Together;
 use synthesis::Synthesis;
 use theory::Automaton;
 use writer::Printed;
-
-// The text of table `sequencer`, with the names that the two texts gave the signals.
-fn write_text<'a>(
-    m: &'a [u8],
-    p: &'a [u8],
-    header: Automaton,
-    cells: &[u16],
-    text: &mut [u8],
-) -> Printed
-    ensures { λ r. ⌜ r ≡ writerReply (table header (now (cells .entry))) sequencerWord (signalNames (now (m .entry)) (now (p .entry))) (length (now (text .entry))) ⌝ }
-    ensures { λ r. ⌜ Written (table header (now (cells .entry))) sequencerWord (signalNames (now (m .entry)) (now (p .entry))) (now (text .entry)) (now (text .exit)) ⌝ }
-{
-    let names = [
-        lookup::name(m, p, 0),
-        lookup::name(m, p, 1),
-        lookup::name(m, p, 2),
-        lookup::name(m, p, 3),
-        lookup::name(m, p, 4),
-        lookup::name(m, p, 5),
-        lookup::name(m, p, 6),
-        lookup::name(m, p, 7),
-        lookup::name(m, p, 8),
-        lookup::name(m, p, 9),
-        lookup::name(m, p, 10),
-        lookup::name(m, p, 11),
-        lookup::name(m, p, 12),
-        lookup::name(m, p, 13),
-        lookup::name(m, p, 14),
-        lookup::name(m, p, 15),
-        lookup::name(m, p, 16),
-        lookup::name(m, p, 17),
-        lookup::name(m, p, 18),
-        lookup::name(m, p, 19),
-        lookup::name(m, p, 20),
-        lookup::name(m, p, 21),
-        lookup::name(m, p, 22),
-        lookup::name(m, p, 23),
-        lookup::name(m, p, 24),
-        lookup::name(m, p, 25),
-        lookup::name(m, p, 26),
-        lookup::name(m, p, 27),
-        lookup::name(m, p, 28),
-        lookup::name(m, p, 29),
-        lookup::name(m, p, 30),
-        lookup::name(m, p, 31),
-    ];
-    writer::write(header, cells, b"sequencer", &names, text)
-}
 
 // The six lines over what the maker left in its buffers.
 fn six_lines(
@@ -97,7 +46,7 @@ fn put_text<'a>(
     requires { ⌜ length (now text) ≡ 65536 ⌝ }
     ensures { λ r. ⌜ WithText (now (m .entry)) (now (p .entry)) (table header (now (cells .entry))) (sixOf true (header .states) rounds (now (cells .entry)) (now (flags .entry))) (now (out .entry)) r (now (out .exit)) ⌝ }
 {
-    match write_text(m, p, header, cells, text) {
+    match labels::write_text(m, p, header, cells, text) {
         Printed::Refused(r) => refusal_line(out, 0, r.table, r.number, 0),
         Printed::Length(n) => {
             let at = six_lines(out, true, header.states, rounds, cells, flags);
@@ -179,8 +128,18 @@ fn lesser(a: usize, b: usize) -> usize
     b
 }
 
-// The same, where the cells of the two tables may stand in longer buffers. The maker is lent as many pairs as there are, or as there is room for:
-// 1,024 at most, whatever is lent here.
+// How many pairs the maker is lent for two tables of so many states: as many as there are, or as there is room for; 1,024 at most, whatever is
+// lent here.
+fn pairs_lent(a: usize, b: usize, cells: usize, flags: usize) -> usize
+    requires { ⌜ a * b ≤ 16777216 ⌝ }
+    ensures { λ r. ⌜ r ≡ lesserOf (a * b) (roomOf cells flags) ⌝ }
+{
+    let lent = lesser(cells / 32, flags);
+    let room = lesser(lent, 1024);
+    lesser(a * b, room)
+}
+
+// Makes and tells, where the cells of the two tables may stand in longer buffers.
 fn make_in<'a>(
     m: &'a [u8],
     p: &'a [u8],
@@ -196,9 +155,7 @@ fn make_in<'a>(
     requires { ⌜ Holds b (now cb) ⌝ }
     ensures { λ r. ⌜ Makes (now (m .entry)) (now (p .entry)) (table a (take (a .states * 32) (now (ca .entry)))) (table b (take (b .states * 32) (now (cb .entry)))) (now (cells .entry)) (now (flags .entry)) (now (out .entry)) r (now (cells .exit)) (now (flags .exit)) (now (out .exit)) ⌝ }
 {
-    let lent = lesser(cells.len() / 32, flags.len());
-    let room = lesser(lent, 1024);
-    let n = lesser(a.states * b.states, room);
+    let n = pairs_lent(a.states, b.states, cells.len(), flags.len());
     let ends = n * 32;
     let ea = a.states * 32;
     let eb = b.states * 32;
@@ -227,11 +184,7 @@ pub fn report<'a>(
     flags: &mut [u8],
     out: &mut [u8],
 ) -> usize
-    ensures { λ r. ⌜ Reported (now (m .entry)) (now (p .entry)) (length (now (cm .entry))) (length (now (cp .entry))) (roomOf (length (now (cells .entry))) (length (now (flags .entry)))) (now (out .entry)) r (now (out .exit)) ⌝ }
-    ensures { λ r. ⌜ now (cm .exit) ≡ cellsFirst (length (now (cm .entry))) (readBoth (length (now (cm .entry))) (now (m .entry)) (length (now (cp .entry))) (now (p .entry))) ⌝ }
-    ensures { λ r. ⌜ now (cp .exit) ≡ cellsSecond (length (now (cp .entry))) (readBoth (length (now (cm .entry))) (now (m .entry)) (length (now (cp .entry))) (now (p .entry))) ⌝ }
-    ensures { λ r. ⌜ now (cells .exit) ≡ cellsLeft (now (cells .entry)) (length (now (flags .entry))) (readBoth (length (now (cm .entry))) (now (m .entry)) (length (now (cp .entry))) (now (p .entry))) ⌝ }
-    ensures { λ r. ⌜ now (flags .exit) ≡ flagsLeft (length (now (cells .entry))) (now (flags .entry)) (readBoth (length (now (cm .entry))) (now (m .entry)) (length (now (cp .entry))) (now (p .entry))) ⌝ }
+    ensures { λ r. ⌜ Told (now (m .entry)) (now (p .entry)) (now (cm .entry)) (now (cp .entry)) (now (cells .entry)) (now (flags .entry)) (now (out .entry)) r (now (cm .exit)) (now (cp .exit)) (now (cells .exit)) (now (flags .exit)) (now (out .exit)) ⌝ }
     ensures { λ r. ⌜ r ≤ 65608 ⌝ }
 {
     match reader::read_together(m, p, cm, cp) {

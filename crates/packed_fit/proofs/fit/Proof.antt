@@ -1,3 +1,4 @@
+use native.Mathlib.Omega.{arith}
 use borrow.Author.Needs.{needs}
 use Rattle.packed_fit.proofs.fit.Statement.{statement}
 use Rattle.packed_fit.proofs.fit.Tie as tie
@@ -21,7 +22,7 @@ returns-2 : tie.Need-returns-2
 returns-2 c = search needs
 
 fit-64-requires : tie.Need-fit-64-requires
-fit-64-requires c κs = search needs
+fit-64-requires c κs = (omega arith, omega arith)
 
 same-length-3 : tie.Need-same-length-3
 same-length-3 c = search needs

@@ -1,3 +1,4 @@
+use native.Mathlib.Omega.{arith}
 use borrow.Author.Needs.{needs}
 use Rattle.packed_refinement.proofs.refine.Statement.{statement}
 use Rattle.packed_refinement.proofs.refine.Tie as tie
@@ -21,7 +22,7 @@ returns-2 : tie.Need-returns-2
 returns-2 c = search needs
 
 refine-64-requires : tie.Need-refine-64-requires
-refine-64-requires c κs = search needs
+refine-64-requires c κs = (omega arith, omega arith)
 
 same-length-3 : tie.Need-same-length-3
 same-length-3 c = search needs

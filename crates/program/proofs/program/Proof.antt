@@ -77,8 +77,8 @@ returns-3 c =
     let s = q .before .before .before in
     let e = f .report .ensures in (
       both-read _ _ _ _ _ _ _ _ _ _ _ _ _ (s .before .before .before .first .given .1) (s .second .given .1) _ _ (q .before .before2 .ensures)
-          (q .before3 .ensures) _ _ _ _ (record { told = e .0; module-left = e .1 .0; plan-left = e .1 .1 .0; cells-left = e .1 .1 .1 .0; flags-left = e .1 .1 .1 .1 .0 }),
-      e .1 .1 .1 .1 .1,
+          (q .before3 .ensures) _ _ _ _ (e .0),
+      e .1,
     )
 
 pub program-spec : {M : Type 1} → statement M

@@ -9,27 +9,14 @@ use Rattle.report.proofs.make_in.Statement.{statement}
 use Rattle.report.proofs.make_in.Tie as tie
 use Rattle.report.proofs.make_in.Reads as reads
 use Rattle.report.proofs.make_in.Lts as lts
-use Rattle.report.proofs.lesser.Reads as lesser-reads
 use Rattle.report.proofs.make.Reads as make-reads
+use Rattle.report.proofs.pairs_lent.Reads as pairs-lent-reads
 
-lesser-requires : tie.Need-lesser-requires
-lesser-requires c κs = search needs
-
-lesser-requires-2 : tie.Need-lesser-requires-2
-lesser-requires-2 c κs = search needs
-
-mul-lesser : tie.Need-mul-lesser
-mul-lesser c =
-    let s = c .before .before .before .before .before .before .before .before .before .before .before in
-    omega (arith, few-pairs (s .args .a) (s .args .b) _ _ (s .pre .0) (s .pre .1))
-
-lesser-requires-3 : tie.Need-lesser-requires-3
-lesser-requires-3 c κs = search needs
+pairs-lent-requires : tie.Need-pairs-lent-requires
+pairs-lent-requires c κs = let s = c .before .before .before .before .before .before .before in few-pairs (s .args .a) (s .args .b) _ _ (s .pre .0) (s .pre .1)
 
 mul-ends : tie.Need-mul-ends
-mul-ends c =
-    let s = c .before .before .before .before .before .before .before .before .before .before .before .before in
-    omega (arith, lent-cells (table (s .args .a) []) (table (s .args .b) []) (now (s .args .cells)) (now (s .args .flags)) _ _ _ (c .before .before .before .before .lesser .ensures) (c .before .before .before .lesser2 .ensures) (c .lesser3 .ensures))
+mul-ends c = let s = c .before .before .before .before .before .before .before .before in omega (arith, lent-cells (table (s .args .a) []) (table (s .args .b) []) (now (s .args .cells)) (now (s .args .flags)) _ (c .pairs-lent .ensures))
 
 mul-ea : tie.Need-mul-ea
 mul-ea c = search needs
@@ -62,9 +49,7 @@ part-make-start-3 : tie.Need-part-make-start-3
 part-make-start-3 c = search needs
 
 part-make-end-3 : tie.Need-part-make-end-3
-part-make-end-3 c =
-    let s = c .before .before .before .before .before .before .before .before .before .before .before .before .before .before .before .before in
-    lent-cells (table (s .args .a) []) (table (s .args .b) []) (now (s .args .cells)) (now (s .args .flags)) _ _ _ (c .before .before .before .before .before .before .before .before .lesser .ensures) (c .before .before .before .before .before .before .before .lesser2 .ensures) (c .before .before .before .before .lesser3 .ensures)
+part-make-end-3 c = let s = c .before .before .before .before .before .before .before .before .before .before .before .before in lent-cells (table (s .args .a) []) (table (s .args .b) []) (now (s .args .cells)) (now (s .args .flags)) _ (c .before .before .before .before .pairs-lent .ensures)
 
 sub-make-4 : tie.Need-sub-make-4
 sub-make-4 c = search needs
@@ -73,9 +58,7 @@ part-make-start-4 : tie.Need-part-make-start-4
 part-make-start-4 c = search needs
 
 part-make-end-4 : tie.Need-part-make-end-4
-part-make-end-4 c =
-    let s = c .before .before .before .before .before .before .before .before .before .before .before .before .before .before .before .before .before in
-    lent-flags (table (s .args .a) []) (table (s .args .b) []) (now (s .args .cells)) (now (s .args .flags)) _ _ _ (c .before .before .before .before .before .before .before .before .before .lesser .ensures) (c .before .before .before .before .before .before .before .before .lesser2 .ensures) (c .before .before .before .before .before .lesser3 .ensures)
+part-make-end-4 c = let s = c .before .before .before .before .before .before .before .before .before .before .before .before .before in lent-flags (table (s .args .a) []) (table (s .args .b) []) (now (s .args .cells)) (now (s .args .flags)) _ (c .before .before .before .before .before .pairs-lent .ensures)
 
 make-requires : tie.Need-make-requires
 make-requires c κs = search needs
@@ -93,18 +76,15 @@ returns : tie.Need-returns
 returns c =
     let f = c .before .before .before .before .before .before in
     let l = f .before .before .before .before .before .before .before .before in
-    let s = l .before .before .before .before .before .before .before .before .before .before .before .before in
-    made-of-parts _ _ (s .args .a) (s .args .b) (now (s .args .ca)) (now (s .args .cb)) (now (s .args .cells)) (now (s .args .flags)) _ _ _ (l .before .before .before .before .lesser .ensures)
-    (l .before .before .before .lesser2 .ensures) (l .lesser3 .ensures) (s .args .a .states * 32 - 0) (s .args .b .states * 32 - 0) (l .lesser3 .result * 32 - 0) (l .lesser3 .result - 0) (omega arith) (omega arith) (omega arith) (omega arith) _ _ _ _ _ (f .make .ensures)
+    let s = l .before .before .before .before .before .before .before .before in
+    made-of-parts _ _ (s .args .a) (s .args .b) (now (s .args .ca)) (now (s .args .cb)) (now (s .args .cells)) (now (s .args .flags)) _ (l .pairs-lent .ensures)
+    (s .args .a .states * 32 - 0) (s .args .b .states * 32 - 0) (l .pairs-lent .result * 32 - 0) (l .pairs-lent .result - 0) (omega arith) (omega arith) (omega arith) (omega arith) _ _ _ _ _ (f .make .ensures)
 
 pub make-in-spec : {M : Type 1} → statement M
 make-in-spec =
     tie.close
     (tie.spec
-    lesser-requires
-    lesser-requires-2
-    mul-lesser
-    lesser-requires-3
+    pairs-lent-requires
     mul-ends
     mul-ea
     mul-eb

@@ -7,7 +7,7 @@ use Rattle.report.proofs.put_text.Lts as lts
 use Rattle.emit.proofs.put.Reads as put-reads
 use Rattle.printout.proofs.refusal_line.Reads as refusal-line-reads
 use Rattle.report.proofs.six_lines.Reads as six-lines-reads
-use Rattle.report.proofs.write_text.Reads as write-text-reads
+use Rattle.labels.proofs.write_text.Reads as write-text-reads
 
 write-text-requires : tie.Need-write-text-requires
 write-text-requires c κs = search needs

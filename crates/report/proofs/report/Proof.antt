@@ -42,8 +42,16 @@ returns c =
     let k = f .before .before in
     let r = k .before .before .before .before .before .before .before .read-together .ensures in
     let no = k .before .r .given .1 in
-    let w = report-refused _ _ _ _ _ _ _ (r .0) (r .1 .0) (r .1 .1) _ no _ _ _ _ (f .refusal-line .ensures .0, f .refusal-line .ensures .1 .0) in
-    (w, (r .1 .0, (r .1 .1, (cells-kept _ _ _ _ _ _ _ (r .0) (r .1 .0) (r .1 .1) _ no _ _, (flags-kept _ _ _ _ _ _ _ (r .0) (r .1 .0) (r .1 .1) _ no _ _, report-ends w)))))
+    let w = report-refused _ _ _ _ _ _ _ (r .0) (r .1 .0) (r .1 .1) _ no _ _ _ _ (f .refusal-line .ensures .0, f .refusal-line .ensures .1 .0) in (
+      record {
+        told = w;
+        module-left = r .1 .0;
+        plan-left = r .1 .1;
+        cells-left = cells-kept _ _ _ _ _ _ _ (r .0) (r .1 .0) (r .1 .1) _ no _ _;
+        flags-left = flags-kept _ _ _ _ _ _ _ (r .0) (r .1 .0) (r .1 .1) _ no _ _;
+      },
+      report-ends w,
+    )
 
 same-length-4 : tie.Need-same-length-4
 same-length-4 c = search needs
@@ -67,8 +75,16 @@ returns-2 c =
     let r = k .before .before .before .before .before .before .before .read-together .ensures in
     let yes = k .before .component .given .1 in
     let m = f .make-in .ensures in
-    let w = report-made _ _ _ _ _ _ _ (r .0) (r .1 .0) (r .1 .1) _ _ yes _ _ _ _ _ _ _ m in
-    (w, (r .1 .0, (r .1 .1, (cells-made _ _ _ _ _ _ _ (r .0) (r .1 .0) (r .1 .1) _ _ yes _ _ _ _ _ _ _ m, (flags-made _ _ _ _ _ _ _ (r .0) (r .1 .0) (r .1 .1) _ _ yes _ _ _ _ _ _ _ m, report-ends w)))))
+    let w = report-made _ _ _ _ _ _ _ (r .0) (r .1 .0) (r .1 .1) _ _ yes _ _ _ _ _ _ _ m in (
+      record {
+        told = w;
+        module-left = r .1 .0;
+        plan-left = r .1 .1;
+        cells-left = cells-made _ _ _ _ _ _ _ (r .0) (r .1 .0) (r .1 .1) _ _ yes _ _ _ _ _ _ _ m;
+        flags-left = flags-made _ _ _ _ _ _ _ (r .0) (r .1 .0) (r .1 .1) _ _ yes _ _ _ _ _ _ _ m;
+      },
+      report-ends w,
+    )
 
 pub report-spec : {M : Type 1} → statement M
 report-spec =

@@ -1,9 +1,9 @@
-use Rattle.report.proofs.Texts.{written-named}
+use Rattle.labels.proofs.Names.{written-named}
 use borrow.Author.Needs.{needs}
-use Rattle.report.proofs.write_text.Statement.{statement}
-use Rattle.report.proofs.write_text.Tie as tie
-use Rattle.report.proofs.write_text.Reads as reads
-use Rattle.report.proofs.write_text.Lts as lts
+use Rattle.labels.proofs.write_text.Statement.{statement}
+use Rattle.labels.proofs.write_text.Tie as tie
+use Rattle.labels.proofs.write_text.Reads as reads
+use Rattle.labels.proofs.write_text.Lts as lts
 use Rattle.lookup.proofs.name.Reads as name-reads
 use Rattle.writer.proofs.write.Reads as write-reads
 

@@ -1,0 +1,28 @@
+use native.Mathlib.Omega.{arith}
+use Rattle.report.proofs.Whole.{lent-is}
+use borrow.Author.Needs.{needs}
+use Rattle.report.proofs.pairs_lent.Statement.{statement}
+use Rattle.report.proofs.pairs_lent.Tie as tie
+use Rattle.report.proofs.pairs_lent.Reads as reads
+use Rattle.report.proofs.pairs_lent.Lts as lts
+use Rattle.report.proofs.lesser.Reads as lesser-reads
+
+lesser-requires : tie.Need-lesser-requires
+lesser-requires c κs = search needs
+
+lesser-requires-2 : tie.Need-lesser-requires-2
+lesser-requires-2 c κs = search needs
+
+mul-lesser : tie.Need-mul-lesser
+mul-lesser c = omega (arith, c .before .before .pre)
+
+lesser-requires-3 : tie.Need-lesser-requires-3
+lesser-requires-3 c κs = search needs
+
+returns : tie.Need-returns
+returns c =
+    let s = c .before .before .before in
+    lent-is (s .args .a) (s .args .b) (s .args .cells) (s .args .flags) _ _ _ (c .before .before .lesser .ensures) (c .before .lesser2 .ensures) (c .lesser3 .ensures)
+
+pub pairs-lent-spec : {M : Type 1} → statement M
+pairs-lent-spec = tie.close (tie.spec lesser-requires lesser-requires-2 mul-lesser lesser-requires-3 returns)
