@@ -1,7 +1,7 @@
 #!/usr/bin/env python3
 """Holds docs/CLAIMS.md to the tree: every file and every name that it cites is there, every must-fail edit that it cites exists, every edit
-of the tree is cited, every function that another crate or C can call has two edits or more, and no folder of crates/ is left out of
-crates.txt. The exit status says so."""
+of the tree is cited, every function of the library that another crate or C can call has two edits of its crate or more in the list, and no
+folder of crates/ is left out of crates.txt. The exit status says so."""
 import os
 import re
 import sys
@@ -38,27 +38,34 @@ def must_fail_files(faults):
     return found
 
 
-def public_functions(crate):
+def public_functions(crate, faults):
     """The functions of a library that another crate or C can call: those of its root, and those that the root hands on."""
     root = f"crates/{crate}/src/lib.rt"
     if crate in INSTRUMENTS or not os.path.exists(root):
         return set()
-    text = open(root, encoding="utf-8").read()
-    handed_on = re.findall(r"(?m)^pub use [a-z_]+::([a-z_]+);$", text)
-    return set(re.findall(r"(?m)^pub (?:extern \"C\" )?fn (\w+)", text)) | set(handed_on)
+    found = set()
+    for line in open(root, encoding="utf-8"):
+        own = re.match(r"pub (?:extern \"C\" )?fn (\w+)", line)
+        handed_on = re.fullmatch(r"pub use \w+::(\w+);\n", line)
+        if own or handed_on:
+            found.add((own or handed_on)[1])
+        elif re.match(r"pub (?!struct |enum |const |[a-z]+: )", line):
+            faults.append(f"{root}: not understood: {line.strip()}")
+    return found
 
 
 def functions_tried(lines):
-    """For each crate and function, how many rows of the list of edits name it as the one whose contract fails."""
+    """For each crate and function, the edits of that crate whose row in the list names it as one whose contract fails."""
     tried, last = {}, ""
     for line in lines:
-        row = re.match(r"\| edit [a-z_]+/[a-z0-9_]+ \| [^|]* \| ([^|]*) \|", line)
+        row = re.match(r"\| edit ([a-z_]+)/([a-z0-9_]+) \| [^|]* \| ([^|]*) \|", line)
         if row is None:
             continue
-        last = last if row[1] == "the same" else row[1]
+        last = last if row[3] == "the same" else row[3]
         for crate, names in re.findall(r"`crates/([a-z_]+)/src/\w+\.rt`: ((?:`\w+`(?:, (?:and so of )?)?)+)", last):
-            for name in re.findall(r"\w+", names.replace("and so of", "")):
-                tried[crate, name] = tried.get((crate, name), 0) + 1
+            for name in re.findall(r"`(\w+)`", names):
+                if crate == row[1]:
+                    tried.setdefault((crate, name), set()).add(row[2])
     return tried
 
 
@@ -90,8 +97,8 @@ def main():
             faults.append(f"{path}: not cited in docs/CLAIMS.md")
     tried = functions_tried(lines)
     for crate in sorted(os.listdir("crates")):
-        for name in sorted(public_functions(crate)):
-            if tried.get((crate, name), 0) < 2:
+        for name in sorted(public_functions(crate, faults)):
+            if len(tried.get((crate, name), ())) < 2:
                 faults.append(f"crates/{crate}: {name} has no two edits in the list of docs/CLAIMS.md")
     for fault in faults:
         print(fault)

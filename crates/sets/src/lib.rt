@@ -43,7 +43,7 @@ pub fn lowest(s: u32) -> u32
     u32::trailing_zeros(s)
 }
 
-// One more than the largest member; 0 if there is none.
+// How many binary digits the set has without its leading zeros: every member is below.
 pub fn width(s: u32) -> u32
     ensures { λ r. ⌜ r ≡ 32 - leadingZeros 32 s ⌝ }
 {

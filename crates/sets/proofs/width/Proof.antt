@@ -1,5 +1,4 @@
 use lib.Count.{leading-le}
-use native.Mathlib.Omega.{arith}
 use borrow.Author.Needs.{needs}
 use Rattle.sets.proofs.width.Statement.{statement}
 use Rattle.sets.proofs.width.Tie as tie
