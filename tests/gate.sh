@@ -8,10 +8,10 @@ cd -- "$(dirname -- "$0")/.." || { echo "0 passed, 1 failed"; exit 1; }
 passed=0
 failed=0
 finished=no
-log=$(mktemp) || { echo "0 passed, 1 failed"; exit 1; }
+log=$(mktemp) && built=$(mktemp) || { echo "0 passed, 1 failed"; exit 1; }
 
 finish() {
-    rm -f "$log"
+    rm -f "$log" "$built"
     if [ "$finished" != yes ]; then
         echo "gate: broken off"
         failed=$((failed + 1))
@@ -63,10 +63,16 @@ stage "claims" python3 tests/claims.py
 stage "readings" python3 tests/readings.py
 counted "proofs" rt ci
 stage "edits" python3 tests/edits.py
+# The archives are built while the program is tried: neither needs the other.
+bash tests/archives.sh >"$built" 2>&1 &
+archives=$!
+archives_built() {
+    wait "$archives" || { cat "$built"; return 1; }
+}
 counted "cases" python3 tests/cases.py
 counted "cases under valgrind" python3 tests/cases.py valgrind -q --error-exitcode=9
 counted "examples" python3 tests/examples.py target/bin/sequencer
-stage "archives" bash tests/archives.sh
+stage "archives" archives_built
 counted "boundary" bash tests/boundary.sh
 counted "reference" bash tests/reference.sh
 stage "bench" bash bench/run.sh agree
