@@ -1,6 +1,6 @@
 #!/usr/bin/env bash
 # Tries every must-fail edit: those of the gate (crates/*/must-fail) and those that it leaves to this longer run (crates/*/must-fail-long). Works on
-# a copy of the crates; takes about three quarters of an hour on two cores. The exit status says whether each was refused at a fact.
+# a copy of the crates, and takes longer than the gate. The exit status says whether each was refused at a fact.
 set -eu
 unset CDPATH
 cd -- "$(dirname -- "$0")/.."
