@@ -1,6 +1,6 @@
-# make test is the whole gate; make run prints document 01's run; make edits tries all wrong programs, those too that the gate leaves out; make soak
-# compares with the independent implementation for longer; make bench measures beside plain Rust and plain C.
-.PHONY: test run edits soak bench
+# make test is the whole gate; make run prints document 01's run; make soak compares with the independent implementation for longer; make bench
+# measures beside plain Rust and plain C.
+.PHONY: test run soak bench
 
 test:
 	@bash tests/gate.sh
@@ -9,9 +9,6 @@ test:
 run:
 	@log=$$(rt check sequencer 2>&1) || { echo "$$log"; exit 1; }
 	@cd examples/ref && ../../target/bin/sequencer
-
-edits:
-	@bash tests/all_edits.sh
 
 soak: built
 	@bash tests/reference.sh soak
