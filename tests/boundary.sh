@@ -2,8 +2,8 @@
 # The C boundary: compiles the header as C and as C++, runs the C tests, the comparison with a plain implementation and the
 # bench program, each as built for release and under the address and undefined behaviour sanitizers; the bench program under valgrind too. The
 # last line is 'N passed, M failed'. It is run after archives.sh.
-stage=boundary
-. "$(dirname -- "$0")/counted.sh"
+script=boundary
+. "$(dirname -- "$0")/counted.sh" || { echo "0 passed, 1 failed"; exit 1; }
 
 archive=target/staticlib/libmoqresam.a
 strict=(-Wall -Wextra -Werror -pedantic -Iinclude)
@@ -55,3 +55,5 @@ try "boundary passes, sanitized" counts boundary_sanitized
 try "boundary_random passes, sanitized" counts boundary_random_sanitized
 run boundary
 run boundary_random
+
+finished=yes

@@ -1,20 +1,26 @@
-# Sourced by a stage that counts, which sets $stage to its name first: goes to the top of the tree, makes a folder $work, and defines `try`,
-# which counts into $passed and $failed. However the stage ends, its last line is 'N passed, M failed', and its exit status says the same.
+# Sourced by the scripts that count, each of which sets $script to its name first: goes to the top of the tree, makes a folder $work, and counts
+# into $passed and $failed. However such a script ends, its last line is 'N passed, M failed', and its exit status says the same; at its end it
+# sets $finished to yes, and without that it was broken off, which is a failure.
 set -u
 unset CDPATH
 cd -- "$(dirname -- "${BASH_SOURCE[0]}")/.." || { echo "0 passed, 1 failed"; exit 1; }
 
 passed=0
 failed=0
+finished=no
 work=$(mktemp -d) || { echo "0 passed, 1 failed"; exit 1; }
 finish() {
     rm -rf "$work"
+    if [ "$finished" != yes ]; then
+        echo "$script: broken off"
+        failed=$((failed + 1))
+    fi
     echo "$passed passed, $failed failed"
     [ "$failed" -eq 0 ] && [ "$passed" -gt 0 ]
     exit $?
 }
 trap finish EXIT
-trap 'failed=$((failed + 1)); exit 1' HUP INT TERM
+trap 'exit 1' HUP INT TERM
 
 # try WHAT COMMAND..: passes if the command does; what it says is shown if not.
 try() {
@@ -22,10 +28,10 @@ try() {
     shift
     if "$@" >"$work/log" 2>&1; then
         passed=$((passed + 1))
-        echo "$stage: $what: passed"
+        echo "$script: $what: passed"
     else
         failed=$((failed + 1))
         cat "$work/log"
-        echo "$stage: $what: FAILED"
+        echo "$script: $what: FAILED"
     fi
 }

@@ -1,27 +1,8 @@
 #!/usr/bin/env bash
 # The whole gate. Every stage runs, whatever an earlier one said; the last line is the sum, 'N passed, M failed', and the exit status is 0
 # only if M is 0. However the script ends, it ends with such a line.
-set -u
-unset CDPATH
-cd -- "$(dirname -- "$0")/.." || { echo "0 passed, 1 failed"; exit 1; }
-
-passed=0
-failed=0
-finished=no
-log=$(mktemp) && built=$(mktemp) || { echo "0 passed, 1 failed"; exit 1; }
-
-finish() {
-    rm -f "$log" "$built"
-    if [ "$finished" != yes ]; then
-        echo "gate: broken off"
-        failed=$((failed + 1))
-    fi
-    echo "$passed passed, $failed failed"
-    [ "$failed" -eq 0 ] && [ "$passed" -gt 0 ]
-    exit $?
-}
-trap finish EXIT
-trap 'exit 1' HUP INT TERM
+script=gate
+. "$(dirname -- "$0")/counted.sh" || { echo "0 passed, 1 failed"; exit 1; }
 
 # stage NAME COMMAND..: a stage that passes or fails as one.
 stage() {
@@ -41,9 +22,9 @@ stage() {
 counted() {
     local name=$1 status line
     shift
-    "$@" 2>&1 | tee "$log"
+    "$@" 2>&1 | tee "$work/log"
     status=${PIPESTATUS[0]}
-    line=$(tail -n 1 "$log")
+    line=$(tail -n 1 "$work/log")
     if [[ $line =~ ^(0|[1-9][0-9]{0,8})\ passed,\ (0|[1-9][0-9]{0,8})\ failed$ ]]; then
         local good=${BASH_REMATCH[1]} bad=${BASH_REMATCH[2]}
         if [ "$bad" -eq 0 ] && { [ "$status" -ne 0 ] || [ "$good" -eq 0 ]; }; then
@@ -64,10 +45,10 @@ stage "readings" python3 tests/readings.py
 counted "proofs" rt ci
 stage "edits" python3 tests/edits.py
 # The archives are built while the program is tried: neither needs the other.
-bash tests/archives.sh >"$built" 2>&1 &
+bash tests/archives.sh >"$work/built" 2>&1 &
 archives=$!
 archives_built() {
-    wait "$archives" || { cat "$built"; return 1; }
+    wait "$archives" || { cat "$work/built"; return 1; }
 }
 counted "cases" python3 tests/cases.py
 counted "cases under valgrind" python3 tests/cases.py valgrind -q --error-exitcode=9

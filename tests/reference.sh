@@ -3,13 +3,13 @@
 # archives, and compares on random and on all small tables, texts and sequencers. The last line is 'N passed, M failed'.
 # It is run after `rt ci`, which leaves the program in target/bin, and archives.sh. With the argument `soak` it takes twenty times as many cases, and its seed
 # from the date; the seed is printed, and the number of a failed case beside it repeats the case (tests/reference/main.rs says how).
-stage=reference
-. "$(dirname -- "$0")/counted.sh"
+script=reference
+. "$(dirname -- "$0")/counted.sh" || { echo "0 passed, 1 failed"; exit 1; }
 
 case "${1-}" in
     "") seed=1 times=1 limit=120 ;;
     soak) seed=$(date +%s) times=20 limit=7200 ;;
-    *) echo "usage: tests/reference.sh [soak]"; failed=1; exit 1 ;;
+    *) echo "usage: tests/reference.sh [soak]"; exit 1 ;;
 esac
 
 compile() {
@@ -41,3 +41,5 @@ run tables "$seed" "$((100000 * times))"
 run texts "$seed" "$((25000 * times))"
 run demand3 "$seed" "$((5000 * times))"
 run program "$seed" "$((300 * times))" "$work/run" target/bin/sequencer
+
+finished=yes
