@@ -1,10 +1,13 @@
 #!/usr/bin/env python3
-"""Holds docs/CLAIMS.md to the tree: every file and every name that it cites is there, every must-fail edit that it cites exists, every edit
-of the tree is cited, every function of the library that another crate or C can call has two edits of its crate or more in the list, and no
-folder of crates/ is left out of crates.txt. The exit status says so."""
+"""Holds docs/CLAIMS.md to the tree: every file and every name that it cites is there; every wrong program that it cites is tried, and every one
+that is tried is cited; a function whose contract fails under one, as the list has it, stands on what that one changes; every function of the
+library that another crate or C can call has two of its crate or more in the list; no folder of crates/ is left out of crates.txt. The exit status
+says so."""
 import os
 import re
 import sys
+
+from wrong_programs import stands_on, trials, unfit_together
 
 # The tests' own crates, which are no part of the library.
 INSTRUMENTS = ("harness", "replies")
@@ -22,19 +25,24 @@ def declares(path, text, name):
     return re.search(rf"\b{word}\b", text) is not None
 
 
-def must_fail_files(faults):
-    """The edits of the listed crates; anything that rt would not try is a fault."""
+def wrong_programs(faults):
+    """The wrong programs of the listed crates, each crate and name with the function that it changes; anything that rt would not try is a fault."""
     listed = {line.split(":")[0].strip() for line in open("crates.txt", encoding="utf-8") if line.split("#")[0].strip()}
-    found = []
     for crate in sorted(os.listdir("crates")):
         if crate not in listed:
             faults.append(f"crates/{crate}: not in crates.txt")
         folder = f"crates/{crate}/must-fail"
-        for name in sorted(os.listdir(folder)) if os.path.isdir(folder) else []:
-            if name.endswith(".edit"):
-                found.append(f"{folder}/{name}")
-            else:
+        for name in os.listdir(folder) if os.path.isdir(folder) else []:
+            if not name.endswith(".edit"):
                 faults.append(f"{folder}/{name}: not an edit")
+    found = {}
+    for trial in trials():
+        if unfit_together(trial):
+            faults.append(f"{trial.path}: {unfit_together(trial)}")
+        for program in trial.programs:
+            if (trial.crate, program.name) in found:
+                faults.append(f"{trial.path}: {program.name} stands in two places")
+            found[trial.crate, program.name] = program.function
     return found
 
 
@@ -54,18 +62,21 @@ def public_functions(crate, faults):
     return found
 
 
-def functions_tried(lines):
-    """For each crate and function, the edits of that crate whose row in the list names it as one whose contract fails."""
-    tried, last = {}, ""
+def functions_tried(lines, changed, faults):
+    """For each crate and function, the wrong programs of that crate whose row in the list names it as one whose contract fails."""
+    tried, last, runs = {}, "", {}
     for line in lines:
         row = re.match(r"\| edit ([a-z_]+)/([a-z0-9_]+) \| [^|]* \| ([^|]*) \|", line)
         if row is None:
             continue
         last = last if row[3] == "the same" else row[3]
-        for crate, names in re.findall(r"`crates/([a-z_]+)/src/\w+\.rt`: ((?:`\w+`(?:, (?:and so of )?)?)+)", last):
+        at = changed.get((row[1], row[2]))
+        for names in re.findall(rf"`crates/{row[1]}/src/\w+\.rt`: ((?:`\w+`(?:, (?:and so of )?)?)+)", last):
             for name in re.findall(r"`(\w+)`", names):
-                if crate == row[1]:
-                    tried.setdefault((crate, name), set()).add(row[2])
+                runs[row[1]] = runs.get(row[1]) or stands_on(row[1])
+                if at and at.split("::")[-1] not in runs[row[1]].get(name, ()):
+                    faults.append(f"docs/CLAIMS.md: edit {row[1]}/{row[2]}: it changes {at}, on which {name} does not stand")
+                tried.setdefault((row[1], name), set()).add(row[2])
     return tried
 
 
@@ -73,6 +84,7 @@ def main():
     os.chdir(TOP)
     lines = open("docs/CLAIMS.md", encoding="utf-8").read().split("\n")
     held, faults, cited = 0, [], set()
+    tried = wrong_programs(faults)
     for number, line in enumerate(lines, 1):
         for path, names in re.findall(r"`([\w/.-]+\.\w+|\.ci/run)`(?:: ((?:`[^`]+`(?:, )?)+))?", line):
             if not os.path.exists(path):
@@ -85,20 +97,18 @@ def main():
                     held += 1
                 else:
                     faults.append(f"docs/CLAIMS.md:{number}: {path} does not declare {name}")
-        for crate, edit in re.findall(r"edit ([a-z_]+)/([a-z0-9_]+)", line):
-            path = f"crates/{crate}/must-fail/{edit}.edit"
-            cited.add(path)
-            if os.path.exists(path):
+        for crate, name in re.findall(r"edit ([a-z_]+)/([a-z0-9_]+)", line):
+            cited.add((crate, name))
+            if (crate, name) in tried:
                 held += 1
             else:
-                faults.append(f"docs/CLAIMS.md:{number}: no edit {path}")
-    for path in must_fail_files(faults):
-        if path not in cited:
-            faults.append(f"{path}: not cited in docs/CLAIMS.md")
-    tried = functions_tried(lines)
+                faults.append(f"docs/CLAIMS.md:{number}: no wrong program {name} of {crate}")
+    for crate, name in sorted(set(tried) - cited):
+        faults.append(f"crates/{crate}: the wrong program {name} is not cited in docs/CLAIMS.md")
+    functions = functions_tried(lines, tried, faults)
     for crate in sorted(os.listdir("crates")):
         for name in sorted(public_functions(crate, faults)):
-            if len(tried.get((crate, name), ())) < 2:
+            if len(functions.get((crate, name), ())) < 2:
                 faults.append(f"crates/{crate}: {name} has no two edits in the list of docs/CLAIMS.md")
     for fault in faults:
         print(fault)
