@@ -32,10 +32,13 @@ extern "C" {
 #define MOQRESAM_STATE_BYTES 64u
 
 /* The most states that a table may have, and the most pairs of states that fit and refine take. */
-#define MOQRESAM_MOST_STATES 4096u
-#define MOQRESAM_MOST_PAIRS 4096u
+#define MOQRESAM_MAX_STATES 4096u
+#define MOQRESAM_MAX_PAIRS 4096u
 
-/* Why a call is turned away. The names of tables: 1 the first, or the only one; 2 the second; 0 neither, for 7 to 10. */
+/*
+ * Why a call is turned away. The names of tables: 1 the first, or the only one; 2 the second; 0 neither, for 7 to 10. Of the library's numbers,
+ * which docs/REFERENCE.md lists, those that no call here gives are left out.
+ */
 enum moqresam_refusal {
     MOQRESAM_ACCEPTED = 0,
     MOQRESAM_REFUSED_STATES = 1,         /* the table has no state or more than 4,096 */

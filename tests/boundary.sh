@@ -20,21 +20,25 @@ bench_prints() {
     "$work/$1" >"$work/printed" && diff examples/bench.out "$work/printed"
 }
 
-# The tests' own count; `run` adds it, `counts` asks only that nothing failed.
+# The tests' own count; `run` adds it, `counts` asks only that nothing failed. A status that does not agree with the count is a failure: under the
+# sanitizers a fault may be found after the count is printed.
 counts() {
-    "$work/$1" | tail -n 1 | grep -q '^[1-9][0-9]* passed, 0 failed$'
+    "$work/$1" >"$work/said" || return 1
+    tail -n 1 "$work/said" | grep -q '^[1-9][0-9]* passed, 0 failed$'
 }
 
 run() {
-    local line
-    line=$("$work/$1" | tee "$work/said" | tail -n 1)
-    if [[ $line =~ ^([0-9]+)\ passed,\ ([0-9]+)\ failed$ ]]; then
+    local status line
+    "$work/$1" >"$work/said"
+    status=$?
+    line=$(tail -n 1 "$work/said")
+    if [[ $line =~ ^([1-9][0-9]*)\ passed,\ ([0-9]+)\ failed$ ]] && { [ "$status" -eq 0 ] || [ "${BASH_REMATCH[2]}" -gt 0 ]; }; then
         grep '^failed' "$work/said"
         passed=$((passed + BASH_REMATCH[1]))
         failed=$((failed + BASH_REMATCH[2]))
     else
         failed=$((failed + 1))
-        echo "boundary: $1: FAILED, no count"
+        echo "boundary: $1: FAILED, status $status, last line: $line"
     fi
 }
 

@@ -50,6 +50,9 @@ def unwritten():
 def main():
     passed, failed = 0, 0
     names = sorted(os.listdir(CASES))
+    if not names:
+        failed += 1
+        print("no case")
     with concurrent.futures.ThreadPoolExecutor(os.cpu_count()) as pool:
         faults = list(pool.map(lambda name: fault(os.path.join(CASES, name)), names))
     for name, wrong in [*zip(names, faults), ("no room for the report", unwritten())]:

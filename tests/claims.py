@@ -7,10 +7,11 @@ import os
 import re
 import sys
 
-from wrong_programs import stands_on, trials, unfit_together
+import functions
+from wrong_programs import trials, unfit_together
 
 # The tests' own crates, which are no part of the library.
-INSTRUMENTS = ("harness", "replies")
+INSTRUMENTS = {"harness", "replies"}
 
 TOP = os.path.join(os.path.dirname(os.path.abspath(__file__)), "..")
 
@@ -46,22 +47,6 @@ def wrong_programs(faults):
     return found
 
 
-def public_functions(crate, faults):
-    """The functions of a library that another crate or C can call: those of its root, and those that the root hands on."""
-    root = f"crates/{crate}/src/lib.rt"
-    if crate in INSTRUMENTS or not os.path.exists(root):
-        return set()
-    found = set()
-    for line in open(root, encoding="utf-8"):
-        own = re.match(r"pub (?:extern \"C\" )?fn (\w+)", line)
-        handed_on = re.fullmatch(r"pub use \w+::(\w+);\n", line)
-        if own or handed_on:
-            found.add((own or handed_on)[1])
-        elif re.match(r"pub (?!struct |enum |const |[a-z]+: )", line):
-            faults.append(f"{root}: not understood: {line.strip()}")
-    return found
-
-
 def functions_tried(lines, changed, faults):
     """For each crate and function, the wrong programs of that crate whose row in the list names it as one whose contract fails."""
     tried, last, runs = {}, "", {}
@@ -73,7 +58,7 @@ def functions_tried(lines, changed, faults):
         at = changed.get((row[1], row[2]))
         for names in re.findall(rf"`crates/{row[1]}/src/\w+\.rt`: ((?:`\w+`(?:, (?:and so of )?)?)+)", last):
             for name in re.findall(r"`(\w+)`", names):
-                runs[row[1]] = runs.get(row[1]) or stands_on(row[1])
+                runs[row[1]] = runs.get(row[1]) or functions.stands_on(row[1])
                 if at and at.split("::")[-1] not in runs[row[1]].get(name, ()):
                     faults.append(f"docs/CLAIMS.md: edit {row[1]}/{row[2]}: it changes {at}, on which {name} does not stand")
                 tried.setdefault((row[1], name), set()).add(row[2])
@@ -105,10 +90,10 @@ def main():
                 faults.append(f"docs/CLAIMS.md:{number}: no wrong program {name} of {crate}")
     for crate, name in sorted(set(tried) - cited):
         faults.append(f"crates/{crate}: the wrong program {name} is not cited in docs/CLAIMS.md")
-    functions = functions_tried(lines, tried, faults)
-    for crate in sorted(os.listdir("crates")):
-        for name in sorted(public_functions(crate, faults)):
-            if len(functions.get((crate, name), ())) < 2:
+    counted = functions_tried(lines, tried, faults)
+    for crate in sorted(set(os.listdir("crates")) - INSTRUMENTS):
+        for name in sorted(functions.public(crate, faults)):
+            if len(counted.get((crate, name), ())) < 2:
                 faults.append(f"crates/{crate}: {name} has no two edits in the list of docs/CLAIMS.md")
     for fault in faults:
         print(fault)

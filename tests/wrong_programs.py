@@ -5,8 +5,9 @@ a function of its own. A function is proved from its own code and the contracts 
 it stood alone, and one check of the crate tries them all."""
 import glob
 import os
-import re
 from typing import NamedTuple, Optional
+
+import functions
 
 
 class WrongProgram(NamedTuple):
@@ -25,46 +26,6 @@ class Trial(NamedTuple):
     programs: list
 
 
-def bodies(text):
-    """The name of each function of a source file in the layout of `rt fmt`, and where its body begins and ends."""
-    at, name, start = 0, None, None
-    for line in text.split("\n"):
-        head = re.match(r"(?:pub )?(?:extern \"C\" )?fn (\w+)", line)
-        if head:
-            name, start = head[1], None
-        if name and start is None and re.match(r"\{$|\S.* \{$", line):
-            start = at + len(line)
-        elif name and line == "}":
-            yield name, start, at
-            name = None
-        at += len(line) + 1
-
-
-def function_of(crate, file, old):
-    """The function in whose body the text stands; None where it stands in none."""
-    module = re.fullmatch(r"src/(\w+)\.rt", file)
-    if module is None:
-        return None
-    text = open(f"crates/{crate}/{file}", encoding="utf-8").read()
-    at = text.find(old)
-    for name, start, end in bodies(text):
-        if start <= at < end:
-            return name if module[1] in ("lib", "main") else f"{module[1]}::{name}"
-    return None
-
-
-def stands_on(crate):
-    """For each function of a crate, by its bare name, those of the crate that a call of it runs: itself, those that its body calls, and so on."""
-    runs = {}
-    for path in sorted(glob.glob(f"crates/{crate}/src/*.rt")):
-        text = open(path, encoding="utf-8").read()
-        for name, start, end in bodies(text):
-            runs.setdefault(name, {name}).update(re.findall(r"\b(\w+)\(", text[start:end]))
-    for _ in runs:
-        runs = {name: called.union(*(runs.get(callee, set()) for callee in called)) for name, called in runs.items()}
-    return runs
-
-
 def programs(path, crate, label):
     """The wrong programs of a file, in its order."""
     name, file, changed = label, "", {}
@@ -75,8 +36,8 @@ def programs(path, crate, label):
         elif kind == "file":
             file = rest
         elif kind == "old":
-            changed.setdefault(name, set()).add(function_of(crate, file, rest))
-    return [WrongProgram(name, functions.pop() if len(functions) == 1 else None) for name, functions in changed.items()]
+            changed.setdefault(name, set()).add(functions.containing(crate, file, rest))
+    return [WrongProgram(name, places.pop() if len(places) == 1 else None) for name, places in changed.items()]
 
 
 def trials():
@@ -88,7 +49,7 @@ def trials():
 
 def unfit_together(trial):
     """Why the wrong programs of a file may not stand in one; None where they may."""
-    functions = [program.function for program in trial.programs]
-    if len(functions) > 1 and (None in functions or len(set(functions)) < len(functions)):
+    changed = [program.function for program in trial.programs]
+    if len(changed) > 1 and (None in changed or len(set(changed)) < len(changed)):
         return "its wrong programs do not change a function each, all different"
-    return None if functions else "no wrong program"
+    return None if changed else "no wrong program"

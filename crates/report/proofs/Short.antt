@@ -12,13 +12,13 @@ use Rattle.theory.specs.Table.{Table, table, synthesis, controller, keptCount, 
 use Rattle.theory.specs.Checks.{first, unlessRefused, synthesisChecks, tableChecks}
 use Rattle.theory.proofs.Checks.{passed-first, first-part}
 use Rattle.theory.proofs.Tests.{or-left}
-use Rattle.text.specs.Reading.{Joint, both, neither, readBoth}
+use Rattle.text.specs.Reading.{Joint, both, neither, readBoth, tableRead}
 use Rattle.text.specs.Writing.{textWith, Order, textLength, writerChecks}
 use Rattle.text.proofs.Lengths.{text-length}
 use Rattle.labels.specs.Names.{sequencerWord, signalNames}
 use Rattle.printout.specs.Lines.{refusalText, figures}
 use Rattle.printout.proofs.Short.{refusal-short, figures-short, within}
-use Rattle.report.specs.Report.{tableRead, lentPairs, withText, madeText, jointText, reportWith, printedTable, Reported}
+use Rattle.report.specs.Report.{lentPairs, withText, madeText, jointText, reportWith, printedTable, Reported}
 
 text-fits : (t : Table) (name : List ℕ) (names : List (List ℕ)) → first (writerChecks t name names 65536) ≡ Accepted → textLength t name names ≤ 65536
 unfolding writerChecks

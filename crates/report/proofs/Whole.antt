@@ -16,7 +16,7 @@ use Rattle.theory.specs.declared.Checked.the-variants.{Accepted, Refused}
 use Rattle.theory.specs.Table.{Table, table, synthesis, controller}
 use Rattle.theory.specs.Checks.{first, unlessRefused, synthesisChecks}
 use Rattle.text.specs.declared.TextRefusal.{TextRefusal}
-use Rattle.text.specs.Reading.{Reading, Joint, both, neither, readBoth, cellsFirst, cellsSecond}
+use Rattle.text.specs.Reading.{Reading, Joint, both, neither, readBoth, cellsFirst, cellsSecond, tableRead}
 use Rattle.text.specs.Writing.{ascending}
 use Rattle.text.proofs.Accepted as accepted
 use Rattle.text.proofs.Lengths.{ascending-order}
@@ -26,7 +26,7 @@ use Rattle.reader.specs.declared.Together.the-variants as together
 use Rattle.reader.specs.Replies.{togetherReply}
 use Rattle.synthesis.specs.Replies.{synthesisCells, synthesisFlags}
 use Rattle.printout.specs.Lines.{refusalText}
-use Rattle.report.specs.Report.{tableRead, lesserOf, lentPairs, madeText, reportWith, roomOf, printedTable, Reported, cellsMade, flagsMade, cellsLeft, flagsLeft}
+use Rattle.report.specs.Report.{lesserOf, lentPairs, madeText, reportWith, roomOf, printedTable, Reported, cellsMade, flagsMade, cellsLeft, flagsLeft}
 use Rattle.report.specs.Parts.{InOrder, pairsText, Holds, Makes}
 use Rattle.report.proofs.Made.{in-order-same}
 

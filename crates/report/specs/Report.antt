@@ -8,17 +8,13 @@ use lib.ListN.{length, take, drop}
 use Rattle.theory.specs.declared.Automaton.{Automaton}
 use Rattle.theory.specs.Table.{Table, table, synthesis, controller, keptCount, stepCount, endCount}
 use Rattle.theory.specs.Checks.{first, unlessRefused, synthesisChecks}
-use Rattle.text.specs.Reading.{Reading, Joint, both, neither, readBoth, cellsFirst, cellsSecond}
+use Rattle.text.specs.Reading.{Joint, both, neither, readBoth, cellsFirst, cellsSecond, tableRead}
 use Rattle.text.specs.Writing.{textWith, Order, writerChecks}
 use Rattle.emit.specs.Buffer.{stored, after}
 use Rattle.labels.specs.Names.{sequencerWord, signalNames}
 use Rattle.printout.specs.Lines.{refusalText, figures}
 
 -- ---- two tables
-
--- The table that was read: the lent cells beyond it are no part of it.
-abbrev pub tableRead : Reading → Table
-tableRead r = table (r .header) (take (r .header .states * 32) (r .cells))
 
 abbrev pub lesserOf : ℕ → ℕ → ℕ
 lesserOf a b = cond (leb a b) a b

@@ -15,11 +15,11 @@ use Rattle.theory.specs.Checks.{declared}
 use Rattle.theory.proofs.Tests.{and-left, and-right, and-both, test}
 use Rattle.theory.proofs.Bounded.{any-at, at-any}
 use Rattle.theory.proofs.Table.{table-narrow}
-use Rattle.text.specs.Reading.{Reading}
+use Rattle.text.specs.Reading.{Reading, tableRead}
 use Rattle.text.specs.Writing.{signals, nameOf}
 use Rattle.text.specs.Lookup.{nobody, declares}
 use Rattle.text.proofs.Roles.{rolesAt}
-use Rattle.roundtrip.specs.RoundTrip.{tableRead, SameByName}
+use Rattle.roundtrip.specs.RoundTrip.{SameByName}
 use Rattle.roundtrip.proofs.Names.{place-name}
 use Rattle.roundtrip.proofs.Declarations.{numberIn, Numbered}
 use Rattle.roundtrip.proofs.Trip.{Copy}

@@ -14,14 +14,14 @@ use Rattle.theory.specs.Table.{Table}
 use Rattle.theory.specs.Checks.{first, declared}
 use Rattle.theory.specs.Valid.{Valid}
 use Rattle.theory.proofs.Tests.{or-left, or-right}
-use Rattle.text.specs.Reading.{Reading, finished, readAlone, both, afterFirst, afterSecond, readBoth}
+use Rattle.text.specs.Reading.{Reading, finished, readAlone, both, afterFirst, afterSecond, readBoth, tableRead}
 use Rattle.text.specs.Writing.{signals, nameOf, textWith, Order, writerChecks, textLength, bytesWith, Written}
 use Rattle.text.specs.Lookup.{ample, nobody, declares, lookup, lookupNumber, lookupAlone, lookupNumberAlone}
 use Rattle.text.proofs.Occurrences.{those-few}
 use Rattle.text.proofs.Lengths.{text-length}
 use Rattle.text.proofs.Entries.{is-true}
 use Rattle.text.proofs.Accepted.{Sound, accepted, accepted-valid}
-use Rattle.roundtrip.specs.RoundTrip.{tableRead, rank, rankOf, RoundTrip, namesOf, place, different, allNames, JointTrip}
+use Rattle.roundtrip.specs.RoundTrip.{rank, rankOf, RoundTrip, namesOf, place, different, allNames, JointTrip}
 use Rattle.roundtrip.proofs.Names.{place-name, different-begins, begins-place, number-within, different-distinct, rank-place, namesIn}
 use Rattle.roundtrip.proofs.Rows.{Writable, writable}
 use Rattle.roundtrip.proofs.Declarations.{numberIn, Numbered}

@@ -5,18 +5,14 @@ use mathlib.Core.Bool.{cond}
 use mathlib.Core.List.{List, [], _∷_, _++_, map}
 use Prim.Native.Nat.{ℕ, suc, _*_, _<_}
 use lib.Dec.{T, eqb, ltb}
-use lib.ListN.{length, take}
-use Rattle.theory.specs.Table.{Table, table, member, cellAt}
+use lib.ListN.{length}
+use Rattle.theory.specs.Table.{Table, member, cellAt}
 use Rattle.theory.specs.Checks.{declared}
 use Rattle.theory.specs.Valid.{Valid}
 use Rattle.text.specs.Fields.{same}
-use Rattle.text.specs.Reading.{Signal, Reading, finished, readAlone, both, readBoth}
+use Rattle.text.specs.Reading.{Signal, Reading, finished, readAlone, both, readBoth, tableRead}
 use Rattle.text.specs.Writing.{signals, nameOf}
 use Rattle.text.specs.Lookup.{lookup, lookupNumber, lookupAlone, lookupNumberAlone}
-
--- The table that was read: its numbers, with as many of the lent cells as it has.
-abbrev pub tableRead : Reading → Table
-tableRead st = table (st .header) (take (st .header .states * 32) (st .cells))
 
 -- The tables t and u are the same, name for name; names and names′ say how their signals are called, number a is u's number for t's signal a.
 pub record SameByName (t : Table) (names : ℕ → List ℕ) (u : Table) (names′ : ℕ → List ℕ) (number : ℕ → ℕ) : Type 0 where

@@ -4,9 +4,9 @@ use mathlib.Core.List.{List, [], _∷_, _++_}
 use Prim.Native.Nat.{ℕ, suc, _+_, _*_, _^_}
 use lib.Bits.{bitOr}
 use lib.Dec.{eqb, ltb, leb}
-use lib.ListN.{length, getD, set, replicate}
+use lib.ListN.{length, getD, set, replicate, take}
 use Rattle.theory.specs.declared.Automaton.{Automaton}
-use Rattle.theory.specs.Table.{table as tableOf}
+use Rattle.theory.specs.Table.{Table, table as tableOf}
 use Rattle.theory.specs.Checks.{declared}
 use Rattle.text.specs.declared.Place.{Place}
 use Rattle.text.specs.declared.Place.the-variants.{Head, Declarations, Steps}
@@ -28,6 +28,10 @@ pub record Reading : Type 0 where
   pub header : Automaton
   pub signals : List Signal
   pub cells : List ℕ
+
+-- The table that was read: the lent cells beyond it are no part of it.
+abbrev pub tableRead : Reading → Table
+tableRead r = tableOf (r .header) (take (r .header .states * 32) (r .cells))
 
 -- What a line does to a reading.
 pub data Result : Type 0 where
