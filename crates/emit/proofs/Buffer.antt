@@ -1,13 +1,14 @@
 -- Texts put into a buffer one after the other.
 use mathlib.Core.Path.{_≡_, refl, sym, ap, _∙_}
-use mathlib.Core.List.{List, [], _∷_, _++_}
+use mathlib.Core.List.{List, [], _∷_, _++_, append-assoc}
 use Prim.Native.Nat.{ℕ, suc, _+_, _-_, _≤_, _<_, min}
 use native.Mathlib.Decide.{decLe}
 use native.Mathlib.Nat.{add-suc}
 use native.Mathlib.Numerals.{add-one}
 use native.Mathlib.Omega.{arith}
 use lib.ListN.{length, take, drop, getD, set, length-append, length-set, take-append-drop, drop-of-length-le}
-use lib.Seq.{drop-cons, set-out, sets, sets-eq, take-append-seam, length-take-le}
+use lib.Seq.{drop-cons, set-out, sets, sets-eq, length-take-le}
+use borrow.Rule.Slice.PartMut.{putMid, post-is}
 use Rattle.emit.specs.Buffer.{stored, after}
 
 pub length-stored : (d : List ℕ) (at : ℕ) (s : List ℕ) → length (stored d at s) ≡ length d
@@ -61,8 +62,8 @@ pub record Left (d₀ : List ℕ) (at₀ : ℕ) (whole d : List ℕ) (at : ℕ) 
   pub ends : after (length d) at rest ≡ after (length d₀) at₀ whole
   pub text : stored d at rest ≡ stored d₀ at₀ whole
 
-pub left-all : (d : List ℕ) (at : ℕ) (s : List ℕ) → Left d at s d at s
-left-all d at s = record { size = refl; ends = refl; text = refl }
+pub left-all : (d : List ℕ) (at : ℕ) (whole rest : List ℕ) → whole ≡ rest → Left d at whole d at rest
+left-all d at whole rest e = record { size = refl; ends = ap (after (length d) at) (sym e); text = ap (stored d at) (sym e) }
 
 module _ (d₀ : List ℕ) (at₀ : ℕ) (whole d : List ℕ) (at : ℕ) (rest : List ℕ) (l : Left d₀ at₀ whole d at rest) where
   pub left-next : (s t : List ℕ) (r : ℕ) (b : List ℕ) → rest ≡ s ++ t → Puts d at s r b → Left d₀ at₀ whole b r t
@@ -114,16 +115,25 @@ module _ (d : List ℕ) (at : ℕ) (s : List ℕ) where
   unfolding after
   put-whole h k b e = (omega arith, e)
 
--- ---- a text put into a buffer from its first place on
+-- ---- a text for which there is room
 
-module _ (d s : List ℕ) (fits : length s ≤ length d) where
-  stored-sets : (d : List ℕ) (at : ℕ) (s : List ℕ) → stored d at s ≡ sets d at s
-  unfolding stored
-  stored-sets d at [] = refl
-  stored-sets d at (x ∷ s) = stored-sets (set d at x) (suc at) s
+stored-sets : (d : List ℕ) (at : ℕ) (s : List ℕ) → stored d at s ≡ sets d at s
+unfolding stored
+stored-sets d at [] = refl
+stored-sets d at (x ∷ s) = stored-sets (set d at x) (suc at) s
 
-  pub stored-front : stored d 0 s ≡ s ++ drop (length s) d
-  stored-front = let z : 0 + length s ≡ length s = omega arith in stored-sets d 0 s ∙ sets-eq s d 0 (omega arith) ∙ rw z
+stored-part : (d : List ℕ) (at : ℕ) (s : List ℕ) → at + length s ≤ length d → stored d at s ≡ take at d ++ s ++ drop (at + length s) d
+stored-part d at s h = stored-sets d at s ∙ sets-eq s d at h
 
-  pub stored-read : take (length s) (stored d 0 s) ≡ s
-  stored-read = rw stored-front (take-append-seam s (drop (length s) d))
+-- A part that was lent comes back with s.
+pub stored-lent : (d : List ℕ) (at e : ℕ) (s : List ℕ) → e ≡ at + length s → e ≤ length d → putMid at (e - at) d s ≡ stored d at s
+stored-lent d at e s f h = rw (post-is at e d (omega arith), f) (sym (append-assoc (take at d) s _) ∙ sym (stored-part d at s (omega arith)))
+
+-- From the first place on.
+pub stored-front : (d s : List ℕ) → length s ≤ length d → stored d 0 s ≡ s ++ drop (length s) d
+stored-front d s h = let z : 0 + length s ≡ length s = omega arith in stored-part d 0 s (omega arith) ∙ rw z
+
+-- With the byte that ends it.
+pub stored-ended : (d b : List ℕ) (at : ℕ) (s : List ℕ) (i end : ℕ) → b ≡ stored d at s → i ≡ at + length s → set b i end ≡ stored d at (s ++ end ∷ [])
+unfolding stored
+stored-ended d b at s i end e f = rw (e, f) (sym (stored-append d at s (end ∷ [])))

@@ -1,13 +1,20 @@
 -- Lines made of their fields.
-use mathlib.Core.Path.{_≡_, sym, _∙_}
+use mathlib.Core.Path.{_≡_, sym, ap, _∙_}
 use mathlib.Core.Bool.{Bool, true, false}
 use mathlib.Core.List.{List, [], _∷_, _++_, append-assoc}
-use Prim.Native.Nat.{ℕ}
+use Prim.Native.Nat.{ℕ, _+_, _-_, _≤_, _<_}
+use native.Mathlib.Decide.{decLe}
+use native.Mathlib.Omega.{arith}
+use lib.Dec.{leb}
+use lib.ListN.{length, length-append}
+use borrow.Author.Tests.{le-leb, lt-leb}
 use Rattle.text.specs.declared.Role.the-variants.{Input, Output}
-use Rattle.text.specs.Lines.{roleWord}
-use Rattle.text.specs.Writing.{tabbed, printed}
-use Rattle.emit.specs.Rows.{signalText}
-use Rattle.emit.proofs.Buffer.{Puts, puts-then}
+use Rattle.text.specs.Lines.{tableWord, roleWord, stepWord}
+use Rattle.text.specs.Writing.{decimal, tabbed, printed}
+use Rattle.emit.specs.Buffer.{after, stored}
+use Rattle.emit.specs.Rows.{tableText, signalText, stepText}
+use Rattle.emit.proofs.Buffer.{Puts, puts-then, length-stored}
+use Rattle.emit.proofs.Decimal.{decimal-most}
 
 -- A first field with its tab, then the others.
 line-cons : (f g : List ℕ) (fs : List (List ℕ)) → printed ((f ∷ g ∷ fs) ∷ []) ≡ (f ++ 9 ∷ []) ++ printed ((g ∷ fs) ∷ [])
@@ -40,3 +47,84 @@ module _ (d : List ℕ) (at : ℕ) (input : Bool) (name : List ℕ) (r r′ : �
 
   pub signal-out : input ≡ false → Puts d at (roleWord Output ++ 9 ∷ []) r b → Puts b r (name ++ 10 ∷ []) r′ b′ → Puts d at (signalText input name) r′ b′
   signal-out e p q = rw e (line-two d at (roleWord Output) name r r′ b b′ p q)
+
+-- ---- how long the lines are
+
+line-size : (f g : List ℕ) (fs : List (List ℕ)) → length (printed ((f ∷ g ∷ fs) ∷ [])) ≡ length f + 1 + length (printed ((g ∷ fs) ∷ []))
+line-size f g fs = ap length (line-cons f g fs) ∙ length-append (f ++ 9 ∷ []) (printed ((g ∷ fs) ∷ [])) ∙ rw (length-append f (9 ∷ []))
+
+line-end : (f : List ℕ) → length (printed ((f ∷ []) ∷ [])) ≡ length f + 1
+unfolding tabbed printed
+line-end f = length-append f (10 ∷ [])
+
+pub table-long : (name : List ℕ) (states initial : ℕ) → length name + length (decimal states) + length (decimal initial) + 9 ≡ length (tableText name states initial)
+table-long name states initial =
+    omega (
+      arith,
+      line-size tableWord name (decimal states ∷ decimal initial ∷ []),
+      line-size name (decimal states) (decimal initial ∷ []),
+      line-size (decimal states) (decimal initial) [],
+      line-end (decimal initial),
+    )
+
+pub input-long : (input : Bool) (name : List ℕ) → input ≡ true → length name + 4 ≡ length (signalText input name)
+input-long input name e = rw e (omega (arith, line-size (roleWord Input) name [], line-end name))
+
+pub output-long : (input : Bool) (name : List ℕ) → input ≡ false → length name + 5 ≡ length (signalText input name)
+output-long input name e = rw e (omega (arith, line-size (roleWord Output) name [], line-end name))
+
+pub step-long : (from : ℕ) (name : List ℕ) (to : ℕ) → length name + length (decimal from) + length (decimal to) + 8 ≡ length (stepText from name to)
+step-long from name to =
+    omega (
+      arith,
+      line-size stepWord (decimal from) (name ∷ decimal to ∷ []),
+      line-size (decimal from) name (decimal to ∷ []),
+      line-size name (decimal to) [],
+      line-end (decimal to),
+    )
+
+-- ---- room for the line of a step
+
+module _ (bytes at name : ℕ) where
+  pub room-none : bytes < at → false ≡ leb (at + name + 18) bytes
+  room-none h = sym (lt-leb (at + name + 18) bytes (omega arith))
+
+  pub room-little : bytes - at < 18 → false ≡ leb (at + name + 18) bytes
+  room-little h = sym (lt-leb (at + name + 18) bytes (omega arith))
+
+  pub room-asked : at ≤ bytes → 18 ≤ bytes - at → leb name (bytes - at - 18) ≡ leb (at + name + 18) bytes
+  room-asked h k = elim (decLe name (bytes - at - 18)) [
+    | yes l ↦ le-leb name (bytes - at - 18) l ∙ sym (le-leb (at + name + 18) bytes (omega arith))
+    | no g ↦ lt-leb name (bytes - at - 18) (omega arith) ∙ sym (lt-leb (at + name + 18) bytes (omega arith))
+  ]
+
+-- ---- its fields, where there is room
+
+-- A field and the byte that ends it were put into d, whole.
+abbrev Ended : List ℕ → ℕ → List ℕ → ℕ → ℕ → List ℕ → Type 0
+Ended d at s end r b = (r ≡ at + length s + 1) × (b ≡ stored d at (s ++ end ∷ []))
+
+ended-puts : (d : List ℕ) (at : ℕ) (s : List ℕ) (end r : ℕ) (b : List ℕ) → Ended d at s end r b → at + length s < length d → Puts d at (s ++ end ∷ []) r b
+unfolding after
+ended-puts d at s end r b (e, f) h = (omega (arith, e, length-append s (end ∷ [])), f)
+
+ended-length : (d : List ℕ) (at : ℕ) (s : List ℕ) (end r : ℕ) (b : List ℕ) → Ended d at s end r b → length b ≡ length d
+ended-length d at s end r b (e, f) = ap length f ∙ length-stored d at (s ++ end ∷ [])
+
+module _ (d : List ℕ) (at : ℕ) (name : List ℕ) (from : ℕ) (room : at + length name + 18 ≤ length d) (i j : ℕ) (b₁ b₂ : List ℕ)
+    (word : Ended d at stepWord 9 i b₁) (source : Ended b₁ i (decimal from) 9 j b₂) where
+  pub name-room : j + length name < length b₂
+  name-room = omega (arith, word .0, source .0, decimal-most from, ended-length d at stepWord 9 i b₁ word, ended-length b₁ i (decimal from) 9 j b₂ source)
+
+  module _ (k : ℕ) (b₃ : List ℕ) (signal : Ended b₂ j name 9 k b₃) where
+    pub target-room : k + 6 ≤ length b₃
+    target-room =
+        omega (arith, word .0, source .0, signal .0, decimal-most from, ended-length d at stepWord 9 i b₁ word, ended-length b₁ i (decimal from) 9 j b₂ source, ended-length b₂ j name 9 k b₃ signal)
+
+    pub step-put : (to r : ℕ) (b₄ : List ℕ) → Ended b₃ k (decimal to) 10 r b₄ → Puts d at (stepText from name to) r b₄
+    step-put to r b₄ target =
+        line-four d at stepWord (decimal from) name (decimal to) i j k r b₁ b₂ b₃ b₄
+        (ended-puts d at stepWord 9 i b₁ word (omega arith))
+        (ended-puts b₁ i (decimal from) 9 j b₂ source (omega (arith, word .0, decimal-most from, ended-length d at stepWord 9 i b₁ word)))
+        (ended-puts b₂ j name 9 k b₃ signal name-room)
+        (ended-puts b₃ k (decimal to) 10 r b₄ target (omega (arith, target-room, decimal-most to)))

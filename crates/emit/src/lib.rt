@@ -2,8 +2,9 @@
 // end, and the place after it is then one past that end: so no call has to look whether those before it had room.
 ghost use mathlib.Core.Path.{_≡_};
 ghost use mathlib.Core.List.{[], _∷_, _++_};
-ghost use Prim.Native.Nat.{_+_, _%_, _≤_};
-ghost use lib.ListN.{length, drop};
+ghost use Prim.Native.Nat.{_+_, _%_, _≤_, _<_};
+ghost use lib.Dec.{leb};
+ghost use lib.ListN.{length};
 ghost use Rattle.text.specs.Writing.{decimal};
 ghost use Rattle.emit.specs.Buffer.{after, stored};
 ghost use Rattle.emit.specs.Rows.{tableText, signalText, stepText};
@@ -52,23 +53,37 @@ fn digit(n: usize) -> u8
     48 + (n % 10) as u8
 }
 
-// The digits of a number into five bytes, last digit first, up to the bytes' end; returns where they begin.
-fn digits(d: &mut [u8], n: usize) -> usize
-    requires { ⌜ length (now d) ≡ 5 ⌝ }
-    ensures { λ r. ⌜ (r ≤ 4) × (drop r (now (d .exit)) ≡ decimal n) ⌝ }
+// How many digits a number has; of one from 100,000 on the last five are put.
+pub fn width(n: usize) -> usize
+    ensures { λ r. ⌜ r ≡ length (decimal n) ⌝ }
+{
+    if n < 10 {
+        return 1;
+    }
+    if n < 100 {
+        return 2;
+    }
+    if n < 1000 {
+        return 3;
+    }
+    if n < 10000 {
+        return 4;
+    }
+    5
+}
+
+// The digits of a number into as many bytes, last digit first.
+fn digits(d: &mut [u8], n: usize)
+    requires { ⌜ length (now d) ≡ length (decimal n) ⌝ }
+    ensures { λ _. ⌜ now (d .exit) ≡ decimal n ⌝ }
 {
     let mut left = n;
-    let mut first: usize = 4;
-    d[first] = digit(left);
-    while 0 < first {
-        if left < 10 {
-            return first;
-        }
+    let mut i = d.len();
+    while 0 < i {
+        i -= 1;
+        d[i] = digit(left);
         left = left / 10;
-        first -= 1;
-        d[first] = digit(left);
     }
-    first
 }
 
 // A field that is a number.
@@ -77,8 +92,9 @@ pub fn number(d: &mut [u8], at: usize, n: usize, end: u8) -> usize
     ensures { λ r. ⌜ now (d .exit) ≡ stored (now (d .entry)) at (decimal n ++ end ∷ []) ⌝ }
 {
     let mut five = [0u8; 5];
-    let first = digits(&mut five, n);
-    field(d, at, &five[first..5], end)
+    let w = width(n);
+    digits(&mut five[0..w], n);
+    field(d, at, &five[0..w], end)
 }
 
 // The `table` line.
@@ -105,11 +121,64 @@ pub fn signal_line(d: &mut [u8], at: usize, input: bool, name: &[u8]) -> usize
     field(d, i, name, 10)
 }
 
-// The line of a step.
+// A field for which there is room, with the byte that ends it.
+fn field_within(d: &mut [u8], at: usize, s: &[u8], end: u8) -> usize
+    requires { ⌜ at + length (now s) < length (now d) ⌝ }
+    ensures { λ r. ⌜ r ≡ at + length (now (s .entry)) + 1 ⌝ }
+    ensures { λ r. ⌜ now (d .exit) ≡ stored (now (d .entry)) at (now (s .entry) ++ end ∷ []) ⌝ }
+{
+    copy(d, at, s);
+    let i = at + s.len();
+    d[i] = end;
+    i + 1
+}
+
+// The same for a number.
+fn number_within(d: &mut [u8], at: usize, n: usize, end: u8) -> usize
+    requires { ⌜ at + 6 ≤ length (now d) ⌝ }
+    ensures { λ r. ⌜ r ≡ at + length (decimal n) + 1 ⌝ }
+    ensures { λ r. ⌜ now (d .exit) ≡ stored (now (d .entry)) at (decimal n ++ end ∷ []) ⌝ }
+{
+    let i = at + width(n);
+    digits(&mut d[at..i], n);
+    d[i] = end;
+    i + 1
+}
+
+// The line of a step for which there is room.
+fn step_within(d: &mut [u8], at: usize, from: usize, name: &[u8], to: usize) -> usize
+    requires { ⌜ at + length (now name) + 18 ≤ length (now d) ⌝ }
+    ensures { λ r. ⌜ r ≡ after (length (now (d .entry))) at (stepText from (now (name .entry)) to) ⌝ }
+    ensures { λ r. ⌜ now (d .exit) ≡ stored (now (d .entry)) at (stepText from (now (name .entry)) to) ⌝ }
+{
+    let i = field_within(d, at, b"step", 9);
+    let j = number_within(d, i, from, 9);
+    let k = field_within(d, j, name, 9);
+    number_within(d, k, to, 10)
+}
+
+// Whether there is room from the place `at` on, in so many bytes, for the line of a step: its name and at most 18 others.
+fn has_room(bytes: usize, at: usize, name: usize) -> bool
+    ensures { λ r. ⌜ r ≡ leb (at + name + 18) bytes ⌝ }
+{
+    if bytes < at {
+        return false;
+    }
+    let room = bytes - at;
+    if room < 18 {
+        return false;
+    }
+    name <= room - 18
+}
+
+// The line of a step. Nearly all of a text is such lines, so they are asked for room once and not field by field.
 pub fn step_line(d: &mut [u8], at: usize, from: usize, name: &[u8], to: usize) -> usize
     ensures { λ r. ⌜ r ≡ after (length (now (d .entry))) at (stepText from (now (name .entry)) to) ⌝ }
     ensures { λ r. ⌜ now (d .exit) ≡ stored (now (d .entry)) at (stepText from (now (name .entry)) to) ⌝ }
 {
+    if has_room(d.len(), at, name.len()) {
+        return step_within(d, at, from, name, to);
+    }
     let i = field(d, at, b"step", 9);
     let j = number(d, i, from, 9);
     let k = field(d, j, name, 9);

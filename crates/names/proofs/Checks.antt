@@ -2,9 +2,11 @@
 use mathlib.Core.Path.{_≡_, sym, _∙_}
 use mathlib.Core.Bool.{Bool, true, false, not}
 use mathlib.Core.List.{List, []}
-use Prim.Native.Nat.{ℕ, _<_}
+use Prim.Native.Nat.{ℕ, _≤_, _<_}
 use native.Mathlib.Omega.{arith}
 use lib.Bits.{bitOr}
+use lib.ListN.{length}
+use borrow.Author.Tests.{not-false}
 use Rattle.theory.specs.declared.Automaton.{Automaton}
 use Rattle.theory.specs.declared.Checked.{Checked}
 use Rattle.theory.specs.declared.Checked.the-variants.{Accepted}
@@ -18,7 +20,7 @@ use Rattle.text.specs.Fields.{nameOk}
 use Rattle.text.specs.Writing.{nameOf, misnamed, ambiguous}
 use Rattle.text.proofs.Entries.{is-false}
 use Rattle.names.specs.Names.{anyOf, repeated, Named, nameChecks}
-use Rattle.names.proofs.Names.{named-all}
+use Rattle.names.proofs.Names.{short-name, named-all}
 
 -- The declared signals are the members of both lists' union.
 pub declared-has : (a : Automaton) (cells : List ℕ) (x : ℕ) → x < 32 → declared (table a cells) x ≡ has (bitOr (a .inputs) (a .outputs)) x
@@ -58,10 +60,16 @@ module _ (a : Automaton) (name : List ℕ) (names : List (List ℕ)) where
         unfolding first nameChecks
         names-pass g = rw (← named, e, ← all-misnamed, ← all-repeated, ← all, ← misnames, f, ← repeats, g)
 
--- Names that pass are there.
-pub passed-named : (a : Automaton) (name : List ℕ) (names : List (List ℕ)) → first (nameChecks a name names) ≡ Accepted
-    → Named (bitOr (a .inputs) (a .outputs)) names
-unfolding nameChecks
-passed-named a name names e =
-    let (_, (signals, _)) = passed-first (nameChecks a name names) .0 e in
-    named-all _ names (all-misnamed a name names ∙ is-false (misnamed (table a []) name names) signals)
+-- Names that pass are there, and short; so is the table's.
+module _ (a : Automaton) (name : List ℕ) (names : List (List ℕ)) (e : first (nameChecks a name names) ≡ Accepted) where
+  pub passed-named : Named (bitOr (a .inputs) (a .outputs)) names
+  unfolding nameChecks
+  passed-named =
+      let (_, (signals, _)) = passed-first (nameChecks a name names) .0 e in
+      named-all _ names (all-misnamed a name names ∙ is-false (misnamed (table a []) name names) signals)
+
+  pub passed-short : length name ≤ 16
+  unfolding nameChecks
+  passed-short =
+      let (title, _) = passed-first (nameChecks a name names) .0 e in
+      short-name name (not-false (nameOk name) (is-false (not (nameOk name)) title))

@@ -8,14 +8,15 @@ use native.Mathlib.Omega.{arith}
 use native.Mathlib.Decide.{decLt, ℕ-discrete}
 use denote.Ref.{RefT, now}
 use lib.Count.{trailingZeros}
-use lib.Dec.{T}
+use lib.Dec.{T, leb}
 use lib.ListN.{length, getD, length-map, List·getD-eq-default}
+use borrow.Author.Tests.{leb-true, not-false}
 use Rattle.theory.specs.Bounded.{any}
 use Rattle.theory.specs.Sets.{has}
 use Rattle.theory.proofs.Bounded.{any-at, at-any}
 use Rattle.theory.proofs.Tests.{or-cases, or-left, or-right, and-left, and-right, and-both, same-test}
 use Rattle.sets.proofs.Visit.{low, has-none}
-use Rattle.text.specs.Fields.{same, nameOk}
+use Rattle.text.specs.Fields.{same, all, nameByte, nameOk}
 use Rattle.text.specs.Writing.{nameOf}
 use Rattle.text.proofs.Entries.{is-false}
 use Rattle.names.specs.Names.{texts, anyOf, repeated, Named}
@@ -34,24 +35,46 @@ lent-length l = length-map l (λ (x : RefT (List ℕ)). now x)
 no-name : (names : List (List ℕ)) (i : ℕ) → length names ≤ i → nameOf names i ≡ []
 no-name names i h = List·getD-eq-default names [] {n = i} h
 
--- A set without a bad name has entries for all its members.
-pub named-all : (set : ℕ) (names : List (List ℕ)) → anyOf set (λ (a : ℕ). not (nameOk (nameOf names a))) ≡ false → Named set names
-unfolding anyOf nameOk
-named-all set names e = record {
-  entry = λ a k h. elim (decLt a (length names)) [
-    | yes l ↦ l
-    | no g ↦
-        let bad : T (not (nameOk (nameOf names a))) = rw (no-name names a (omega arith)) tt in
-        absurd (subst T e (at-any 32 (λ (a : ℕ). has set a && not (nameOk (nameOf names a))) a k (and-both (has set a) (not (nameOk (nameOf names a))) h bad)))
-  ];
-}
+pub short-name : (s : List ℕ) → nameOk s ≡ true → length s ≤ 16
+unfolding nameOk
+short-name s e = leb-true (length s) 16 (within (leb 1 (length s)) (leb (length s) 16) e)
+  where
+    within : (a b : Bool) → (a && b && all nameByte s) ≡ true → b ≡ true
+    within true true e = refl
+    within true false e = e
+    within false b e = cc
+
+-- A set without a bad name has entries for all its members, none of them too long.
+module _ (set : ℕ) (names : List (List ℕ)) (e : anyOf set (λ (a : ℕ). not (nameOk (nameOf names a))) ≡ false) where
+  good : (a : ℕ) → a < 32 → T (has set a) → nameOk (nameOf names a) ≡ true
+  unfolding anyOf
+  good a k h =
+      not-false (nameOk (nameOf names a))
+      (is-false (not (nameOk (nameOf names a)))
+      (λ bad. subst T e (at-any 32 (λ (a : ℕ). has set a && not (nameOk (nameOf names a))) a k (and-both (has set a) (not (nameOk (nameOf names a))) h bad))))
+
+  pub named-all : Named set names
+  unfolding nameOk
+  named-all = record {
+    entry = λ a k h. elim (decLt a (length names)) [
+      | yes l ↦ l
+      | no g ↦ let bad : false ≡ true = rw (no-name names a (omega arith)) at (good a k h) in absurd (subst T (sym bad) tt)
+    ];
+    short = λ a k h. short-name (nameOf names a) (good a k h);
+  }
 
 module _ (names : List (List ℕ)) (left : ℕ) (bound : left < 2 ^ 32) (some : ¬ (left ≡ 0)) (n : Named left names) where
   pub named-lowest : trailingZeros 32 left < length names
   named-lowest = let k = low 32 left (omega arith) bound in n .entry _ (k .below) (k .in-set)
 
+  pub short-lowest : length (nameOf names (trailingZeros 32 left)) ≤ 16
+  short-lowest = let k = low 32 left (omega arith) bound in n .short _ (k .below) (k .in-set)
+
+  in-rest : (a : ℕ) → T (has (left - 2 ^ trailingZeros 32 left) a) → T (has left a)
+  in-rest a h = of-rest 32 left (omega arith) bound a h .0
+
   pub named-rest : Named (left - 2 ^ trailingZeros 32 left) names
-  named-rest = record { entry = λ a k h. n .entry a k (of-rest 32 left (omega arith) bound a h .0) }
+  named-rest = record { entry = λ a k h. n .entry a k (in-rest a h); short = λ a k h. n .short a k (in-rest a h) }
 
 -- ---- a loop over the set: what holds of the members left is the answer
 

@@ -1,7 +1,7 @@
 -- Lent names, questions about those of a set of signals, and the checks on them.
 use mathlib.Core.Bool.{Bool, not, _&&_}
 use mathlib.Core.List.{List, [], _∷_, map}
-use Prim.Native.Nat.{ℕ, _<_}
+use Prim.Native.Nat.{ℕ, _≤_, _<_}
 use lib.Dec.{T}
 use lib.ListN.{length}
 use denote.Ref.{RefT, now}
@@ -25,9 +25,10 @@ anyOf set f = any 32 (λ a. has set a && f a)
 unfoldable pub repeated : ℕ → List (List ℕ) → Bool
 repeated set names = any 32 (λ a. any a (λ b. (has set a && has set b) && same (nameOf names a) (nameOf names b)))
 
--- Every member of the set has an entry.
+-- Every member of the set has an entry, no longer than a name may be.
 pub record Named (set : ℕ) (names : List (List ℕ)) : Type 0 where
   pub entry : (a : ℕ) → a < 32 → T (has set a) → a < length names
+  pub short : (a : ℕ) → a < 32 → T (has set a) → length (nameOf names a) ≤ 16
 
 -- ---- the checks: 16 of the table's name, 16 of a declared signal's name, 18 for equal signal names
 

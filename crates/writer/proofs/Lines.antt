@@ -25,7 +25,7 @@ use Rattle.text.specs.Writing.{printed, those, signals, nameOf, tableRow, signa
 use Rattle.text.proofs.Entries.{is-true}
 use Rattle.text.proofs.Lengths.{printed-append}
 use Rattle.emit.specs.Rows.{tableText, signalText, stepText}
-use Rattle.emit.proofs.Buffer.{Puts, puts-none, puts-then, Left, left-all, left-next, left-none}
+use Rattle.emit.proofs.Buffer.{Puts, puts-none, puts-then}
 use Rattle.names.specs.Names.{texts, Named}
 use Rattle.names.proofs.Names.{name-lent}
 use Rattle.names.proofs.Checks.{declared-has}
@@ -34,21 +34,15 @@ use Rattle.writer.specs.Rows.{signalLines, cellText, steps, stateLines, 
 
 -- ---- signals
 
-module _ (d₀ : List ℕ) (at₀ : ℕ) (whole d : List ℕ) (end left inputs : ℕ) (names : List (List ℕ))
-    (l : Left d₀ at₀ whole d end (signalLines left inputs names)) where
-  pub signals-done : left ≡ 0 → Puts d₀ at₀ whole end d
-  unfolding signalLines printed
-  signals-done e = left-none d₀ at₀ whole d end (signalLines left inputs names) l (rw (e, those-empty 32))
+pub signals-next : (left inputs : ℕ) (names : List (List ℕ)) → left < 2 ^ 32 → ¬ (left ≡ 0) → (s : ℕ) → s ≡ trailingZeros 32 left → (input : Bool) → input ≡ member inputs s
+    → (name : List ℕ) → name ≡ nameOf names s → (left′ : ℕ) → left′ ≡ left - 2 ^ trailingZeros 32 left
+    → signalLines left inputs names ≡ signalText input name ++ signalLines left′ inputs names
+unfolding signalLines signalRow
+signals-next left inputs names bound more s e input f name g left′ h = rw (those-lowest 32 left (omega arith) bound, f, g, e, h) (printed-append (_ ∷ []) _)
 
-  pub signals-again : left < 2 ^ 32 → ¬ (left ≡ 0) → (s : ℕ) → s ≡ trailingZeros 32 left → (input : Bool) → input ≡ member inputs s
-      → (name : List ℕ) → name ≡ nameOf names s → (r : ℕ) (b : List ℕ) → Puts d end (signalText input name) r b
-      → (left′ : ℕ) → left′ ≡ left - 2 ^ trailingZeros 32 left → Left d₀ at₀ whole b r (signalLines left′ inputs names)
-  unfolding signalLines signalRow
-  signals-again bound more s e input f name g r b p left′ h =
-      left-next d₀ at₀ whole d end (signalLines left inputs names) l (signalText input name) (signalLines left′ inputs names) r b next p
-    where
-      next : signalLines left inputs names ≡ signalText input name ++ signalLines left′ inputs names
-      next = rw (those-lowest 32 left (omega arith) bound, f, g, e, h) (printed-append (_ ∷ []) _)
+pub signals-none : (left inputs : ℕ) (names : List (List ℕ)) → left ≡ 0 → signalLines left inputs names ≡ []
+unfolding signalLines printed
+signals-none left inputs names e = rw (e, those-empty 32)
 
 -- ---- a cell
 
@@ -84,12 +78,12 @@ module _ (n : ℕ) (cells : List ℕ) (names : List (List ℕ)) where
   pub stepsBy : ℕ → ℕ → List ℕ
   stepsBy state set = printed (map (stepRow t names state) (keep (hasStep t state) (those (has set) 0 32)))
 
-  steps-next : (state left : ℕ) → left < 2 ^ 32 → ¬ (left ≡ 0)
+  steps-lowest : (state left : ℕ) → left < 2 ^ 32 → ¬ (left ≡ 0)
       → stepsBy state left
       ≡ cellText n state (nameOf names (trailingZeros 32 left)) (cellAt t state (trailingZeros 32 left))
       ++ stepsBy state (left - 2 ^ trailingZeros 32 left)
   unfolding stepsBy keep stepRow
-  steps-next state left bound more =
+  steps-lowest state left bound more =
       let s = trailingZeros 32 left in
       rw (those-lowest 32 left (omega arith) bound, lt-ltb s 32 (low 32 left (omega arith) bound .below))
       (go s (ltb (cellAt t state s) n) (keep (hasStep t state) (those (has (left - 2 ^ s)) 0 32)))
@@ -99,8 +93,20 @@ module _ (n : ℕ) (cells : List ℕ) (names : List (List ℕ)) where
       go s true l = printed-append (stepRow t names state s ∷ []) (map (stepRow t names state) l)
       go s false l = refl
 
+  -- The same as code has it: the cell is read at the row's first one.
+  pub steps-next : (state first left s : ℕ) → first ≡ state * 32 → left < 2 ^ 32 → ¬ (left ≡ 0) → state < n → length cells ≡ n * 32 → s ≡ trailingZeros 32 left
+      → (left′ : ℕ) → left′ ≡ left - 2 ^ trailingZeros 32 left
+      → stepsBy state left ≡ cellText n state (nameOf names s) (getD cells (first + s) 0) ++ stepsBy state left′
+  steps-next state first left s f bound more k e q left′ g =
+      let below : trailingZeros 32 left < 32 = low 32 left (omega arith) bound .below in
+      rw (f, q, g, any-default cells (state * 32 + trailingZeros 32 left) 0 65535 (omega arith)) (steps-lowest state left bound more)
+
+  pub steps-none : (state left : ℕ) → left ≡ 0 → stepsBy state left ≡ []
+  unfolding stepsBy keep printed
+  steps-none state left e = rw (e, those-empty 32)
+
   -- The signals of a writable table have all its steps.
-  steps-by : (state signals : ℕ) → Writable n cells signals names → state < n → stateLines n cells names state ≡ stepsBy state signals
+  pub steps-by : (state signals : ℕ) → Writable n cells signals names → state < n → stateLines n cells names state ≡ stepsBy state signals
   unfolding stepsBy ascending
   steps-by state signals w h =
       ap (λ (l : List ℕ). printed (map (stepRow t names state) l))
@@ -113,46 +119,22 @@ module _ (n : ℕ) (cells : List ℕ) (names : List (List ℕ)) where
         | no g ↦ rw (lt-ltb a 32 k, le-ltb (cellAt t state a) n (omega arith)) (sym (and-false (has signals a)))
       ]
 
-  pub steps-all : (state signals : ℕ) → Writable n cells signals names → state < n → (d : List ℕ) (at : ℕ)
-      → Left d at (stateLines n cells names state) d at (stepsBy state signals)
-  steps-all state signals w h d at = rw (← steps-by state signals w h) (left-all d at (stateLines n cells names state))
-
   -- The steps of the states from s on.
   abbrev pub rowsFrom : ℕ → List ℕ
   rowsFrom s = printed (stepRows (ascending t) t names s (n - s))
 
-  rows-next : (s : ℕ) → s < n → rowsFrom s ≡ stateLines n cells names s ++ rowsFrom (s + 1)
+  pub rows-next : (s : ℕ) → s < n → rowsFrom s ≡ stateLines n cells names s ++ rowsFrom (s + 1)
   unfolding stepRows
   rows-next s h =
       let e : n - s ≡ suc (n - (s + 1)) = omega arith in
       rw (e, add-one s) (printed-append (map (stepRow t names s) (ascending t s)) (stepRows (ascending t) t names (suc s) (n - suc s)))
 
-  pub rows-all : (d : List ℕ) (at : ℕ) → Left d at (stepLines n cells names) d at (rowsFrom 0)
-  rows-all d at = let e : n - 0 ≡ n = omega arith in rw e (left-all d at (stepLines n cells names))
+  pub rows-all : stepLines n cells names ≡ rowsFrom 0
+  rows-all = let e : n - 0 ≡ n = omega arith in rw e
 
-  module _ (d₀ : List ℕ) (at₀ : ℕ) (whole d : List ℕ) (end : ℕ) where
-    pub steps-again : (state first left s : ℕ) → first ≡ state * 32 → Left d₀ at₀ whole d end (stepsBy state left) → left < 2 ^ 32 → ¬ (left ≡ 0)
-        → state < n → length cells ≡ n * 32 → s ≡ trailingZeros 32 left
-        → (r : ℕ) (b : List ℕ) → Puts d end (cellText n state (nameOf names s) (getD cells (first + s) 0)) r b
-        → (left′ : ℕ) → left′ ≡ left - 2 ^ trailingZeros 32 left → Left d₀ at₀ whole b r (stepsBy state left′)
-    steps-again state first left s f l bound more k e q r b p left′ g =
-        let below : trailingZeros 32 left < 32 = low 32 left (omega arith) bound .below in
-        rw g
-        (left-next d₀ at₀ whole d end (stepsBy state left) l _ (stepsBy state (left - 2 ^ trailingZeros 32 left)) r b (steps-next state left bound more)
-        (rw (f, q, any-default cells (state * 32 + trailingZeros 32 left) 0 65535 (omega arith)) at p))
-
-    pub steps-done : (state left : ℕ) → Left d₀ at₀ whole d end (stepsBy state left) → left ≡ 0 → Puts d₀ at₀ whole end d
-    unfolding stepsBy keep printed
-    steps-done state left l e = left-none d₀ at₀ whole d end (stepsBy state left) l (rw (e, those-empty 32))
-
-  module _ (d₀ : List ℕ) (at₀ : ℕ) (whole d : List ℕ) (end s : ℕ) where
-    pub rows-again : Left d₀ at₀ whole d end (rowsFrom s) → s < n → (r : ℕ) (b : List ℕ) → Puts d end (stateLines n cells names s) r b
-        → Left d₀ at₀ whole b r (rowsFrom (s + 1))
-    rows-again l h r b p = left-next d₀ at₀ whole d end (rowsFrom s) l _ (rowsFrom (s + 1)) r b (rows-next s h) p
-
-    pub rows-done : Left d₀ at₀ whole d end (rowsFrom s) → n ≤ s → Puts d₀ at₀ whole end d
-    unfolding stepRows printed
-    rows-done l h = left-none d₀ at₀ whole d end (rowsFrom s) l (let e : n - s ≡ 0 = omega arith in rw e)
+  pub rows-none : (s : ℕ) → n ≤ s → rowsFrom s ≡ []
+  unfolding stepRows printed
+  rows-none s h = let e : n - s ≡ 0 = omega arith in rw e
 
 -- ---- the text
 
@@ -186,7 +168,7 @@ module _ (a : Automaton) (cells : List ℕ) (names : List (List ℕ)) where
     abbrev text : List ℕ
     text = textWith (ascending (table a cells)) (table a cells) name names
 
-    text-parts : text ≡ (tableText name (a .states) (a .initial) ++ signalLines acts (a .inputs) names) ++ stepLines (a .states) cells names
+    pub text-parts : text ≡ (tableText name (a .states) (a .initial) ++ signalLines acts (a .inputs) names) ++ stepLines (a .states) cells names
     unfolding textWith tableRow
     text-parts =
         printed-append (tableRow (table a cells) name ∷ map (signalRow (table a cells) names) (signals (table a cells)))

@@ -1,12 +1,12 @@
--- The writer's checks, the text by way of a scratch buffer, and the reply.
+-- The writer's checks, the text, and the reply.
 use mathlib.Core.Path.{_≡_, sym, ap, _∙_}
 use mathlib.Core.Bool.{true, false, _||_, or-true}
 use mathlib.Core.List.{List, _++_, append-assoc}
-use Prim.Native.Nat.{ℕ, _-_, _≤_, _<_, min}
+use Prim.Native.Nat.{ℕ, _≤_, _<_}
 use native.Mathlib.Omega.{arith}
 use lib.Bits.{bitOr}
 use lib.Dec.{ltb}
-use lib.ListN.{length, take, drop}
+use lib.ListN.{length}
 use borrow.Author.Tests.{lt-ltb, le-ltb}
 use Rattle.theory.specs.declared.Refusal.{Refusal}
 use Rattle.theory.specs.declared.Checked.{Checked}
@@ -17,10 +17,9 @@ use Rattle.theory.specs.Valid.{Valid}
 use Rattle.theory.proofs.Checks.{first-refused, first-accepted, first-part, checks-valid}
 use Rattle.text.specs.Writing.{textWith, ascending, textLength, writerChecks, bytesWith, Written}
 use Rattle.text.proofs.Lengths.{ascending-order}
-use Rattle.emit.specs.Buffer.{after}
-use Rattle.emit.proofs.Buffer.{Puts, length-stored, stored-front, stored-read}
+use Rattle.emit.proofs.Buffer.{Puts, stored-front}
 use Rattle.names.specs.Names.{Named, nameChecks}
-use Rattle.names.proofs.Checks.{passed-named}
+use Rattle.names.proofs.Checks.{passed-named, passed-short}
 use Rattle.writer.specs.declared.Printed.{Printed}
 use Rattle.writer.specs.declared.Printed.the-variants as reply
 use Rattle.writer.specs.Replies.{checksBefore, lengthCheck, printReply, printBytes, writerReply}
@@ -42,41 +41,32 @@ module _ (t : Table) (name : List ℕ) (names : List (List ℕ)) where
   abbrev text : List ℕ
   text = textWith (ascending t) t name names
 
-  module _ (scratch b out : List ℕ) (n : ℕ) (size : length scratch ≡ 65536) (p : Puts scratch 0 text n b) where
-    ends : n ≡ min (length text) 65537
-    unfolding after
-    ends = omega (arith, p .0)
-
+  module _ (out : List ℕ) (n : ℕ) (size : n ≡ textLength t name names) where
     -- The call is refused by 23, and the lent bytes are as they were.
     abbrev Refuses : Type 0
     Refuses =
         (r : Refusal) → r ≡ record { number = 23; table = 0 }
         → (reply.Refused r ≡ printReply t name names (length out)) × (out ≡ printBytes t name names out)
 
-    long : ltb (length out) (length text) || ltb 65536 (length text) ≡ true → Refuses
-    unfolding printReply printBytes lengthCheck first textLength
+    long : ltb (length out) (textLength t name names) || ltb 65536 (textLength t name names) ≡ true → Refuses
+    unfolding printReply printBytes lengthCheck first
     long e r f = (rw (e, f), rw e)
 
-    pub print-beyond : length b < n → Refuses
+    pub print-beyond : 65536 < n → Refuses
     print-beyond h =
-        let m : 65536 < length text = omega (arith, ends, ap length (p .1), length-stored scratch 0 text) in
-        long (rw (lt-ltb 65536 (length text) m) (or-true (ltb (length out) (length text))))
+        let m : 65536 < textLength t name names = omega arith in
+        long (rw (lt-ltb 65536 (textLength t name names) m) (or-true (ltb (length out) (textLength t name names))))
 
     pub print-long : length out < n → Refuses
-    print-long h = long (rw (lt-ltb (length out) (length text) (omega (arith, ends))))
+    print-long h = long (rw (lt-ltb (length out) (textLength t name names) (omega arith)))
 
-    pub print-fits : n ≤ length b → n ≤ length out → (r : ℕ) (out′ : List ℕ) → Puts out 0 (take (n - 0) b) r out′
+    pub print-fits : n ≤ 65536 → n ≤ length out → (r : ℕ) (out′ : List ℕ) → Puts out 0 text r out′
         → (reply.Length n ≡ printReply t name names (length out)) × (out′ ≡ printBytes t name names out)
     unfolding printReply printBytes lengthCheck first textLength
-    print-fits h k r out′ (_, v) =
-        let m : length b ≡ 65536 = ap length (p .1) ∙ length-stored scratch 0 text ∙ size in
-        let whole : n ≡ length text = omega (arith, ends) in
-        let z : n - 0 ≡ length text = omega (arith, ends) in
-        let part : take (n - 0) b ≡ text = rw (z, p .1) (stored-read scratch text (omega arith)) in
-        let put : out′ ≡ text ++ drop (length text) out = (rw part at v) ∙ stored-front out text (omega arith) in
+    print-fits h k r out′ (_, put) =
         let short : ltb (length out) (length text) ≡ false = le-ltb (length out) (length text) (omega arith) in
         let small : ltb 65536 (length text) ≡ false = le-ltb 65536 (length text) (omega arith) in
-        (rw (short, small, whole), rw (short, small, put))
+        (rw (short, small, size), rw (short, small) (put ∙ stored-front out text (omega arith)))
 
   -- ---- the call
 
@@ -109,6 +99,10 @@ module _ (t : Table) (name : List ℕ) (names : List (List ℕ)) where
       pub write-named : Named (bitOr (t .header .inputs) (t .header .outputs)) names
       unfolding checksBefore
       write-named = passed-named (t .header) name names (first-part (tableChecks 1 t) (nameChecks (t .header) name names) (sym checked ∙ yes) .1)
+
+      pub write-short : length name ≤ 16
+      unfolding checksBefore
+      write-short = passed-short (t .header) name names (first-part (tableChecks 1 t) (nameChecks (t .header) name names) (sym checked ∙ yes) .1)
 
       only : first (writerChecks t name names (length bytes)) ≡ first (lengthCheck t name names (length bytes))
       only = split (length bytes) ∙ first-accepted (checksBefore t name names) (lengthCheck t name names (length bytes)) (sym checked ∙ yes)

@@ -1,5 +1,6 @@
 // Writes the text of a table (document 01, "Table text").
 ghost use mathlib.Core.Path.{_≡_};
+ghost use Prim.Native.Nat.{_≤_};
 ghost use lib.Bits.{bitOr};
 ghost use lib.ListN.{length};
 ghost use Rattle.theory.specs.Table.{table};
@@ -12,6 +13,7 @@ use theory::Automaton;
 use theory::Checked;
 use theory::Refusal;
 
+mod lengths;
 mod rows;
 
 // The length of the text, which stands in the lent buffer.
@@ -31,41 +33,23 @@ fn check(a: Automaton, cells: &[u16], name: &[u8], names: &[&[u8]]) -> Checked
     names::check(a, name, names)
 }
 
-// The text by way of a scratch buffer: check 23 leaves the lent one as it was.
-fn print(
-    out: &mut [u8],
-    scratch: &mut [u8],
-    a: Automaton,
-    cells: &[u16],
-    name: &[u8],
-    names: &[&[u8]],
-) -> Printed
+// Check 23 and the text.
+fn print(out: &mut [u8], a: Automaton, cells: &[u16], name: &[u8], names: &[&[u8]]) -> Printed
     requires { ⌜ Valid (table a (now cells)) ⌝ }
     requires { ⌜ Named (bitOr (a .inputs) (a .outputs)) (texts (now names)) ⌝ }
-    requires { ⌜ length (now scratch) ≡ 65536 ⌝ }
+    requires { ⌜ length (now name) ≤ 16 ⌝ }
     ensures { λ r. ⌜ r ≡ printReply (table a (now (cells .entry))) (now (name .entry)) (texts (now (names .entry))) (length (now (out .entry))) ⌝ }
     ensures { λ r. ⌜ now (out .exit) ≡ printBytes (table a (now (cells .entry))) (now (name .entry)) (texts (now (names .entry))) (now (out .entry)) ⌝ }
 {
-    let n = rows::text(scratch, a, cells, name, names);
-    if scratch.len() < n {
+    let n = lengths::text(a, cells, name, names);
+    if 65536 < n {
         return Printed::Refused(automaton::refusal(23, 0));
     }
     if out.len() < n {
         return Printed::Refused(automaton::refusal(23, 0));
     }
-    emit::put(out, 0, &scratch[0..n]);
+    rows::text(out, a, cells, name, names);
     Printed::Length(n)
-}
-
-// The same with a scratch buffer of its own, as long as a text may be.
-fn print_all(out: &mut [u8], a: Automaton, cells: &[u16], name: &[u8], names: &[&[u8]]) -> Printed
-    requires { ⌜ Valid (table a (now cells)) ⌝ }
-    requires { ⌜ Named (bitOr (a .inputs) (a .outputs)) (texts (now names)) ⌝ }
-    ensures { λ r. ⌜ r ≡ printReply (table a (now (cells .entry))) (now (name .entry)) (texts (now (names .entry))) (length (now (out .entry))) ⌝ }
-    ensures { λ r. ⌜ now (out .exit) ≡ printBytes (table a (now (cells .entry))) (now (name .entry)) (texts (now (names .entry))) (now (out .entry)) ⌝ }
-{
-    let mut scratch = [0u8; 65536];
-    print(out, &mut scratch, a, cells, name, names)
 }
 
 // Writes the text of a table with its name and a name for each declared signal; bytes past the text stay.
@@ -75,6 +59,6 @@ pub fn write(a: Automaton, cells: &[u16], name: &[u8], names: &[&[u8]], out: &mu
 {
     match check(a, cells, name, names) {
         Checked::Refused(r) => Printed::Refused(r),
-        Checked::Accepted => print_all(out, a, cells, name, names),
+        Checked::Accepted => print(out, a, cells, name, names),
     }
 }

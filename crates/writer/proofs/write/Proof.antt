@@ -1,6 +1,6 @@
 use mathlib.Core.List.{[]}
 use Rattle.theory.specs.Table.{table}
-use Rattle.writer.proofs.Replies.{write-refused, write-kept, write-valid, write-named, write-printed, write-text}
+use Rattle.writer.proofs.Replies.{write-refused, write-kept, write-valid, write-named, write-short, write-printed, write-text}
 use borrow.Author.Needs.{needs}
 use Rattle.writer.proofs.write.Statement.{statement}
 use Rattle.writer.proofs.write.Tie as tie
@@ -14,11 +14,16 @@ enum-known-r c = search needs
 enum-told : tie.Need-enum-told
 enum-told c = search needs
 
-print-all-requires : tie.Need-print-all-requires
-print-all-requires c κs =
+print-requires : tie.Need-print-requires
+print-requires c κs =
     let k = c .before .before .before in
-    let a = k .before .before .before .before .args in
-    (search (write-valid, needs), write-named (table (a .a) (a .cells .now)) _ _ _ (k .check .ensures) [] (c .before .enum-told .given .1))
+    let a = k .before .before .before .before .args in (
+      search (write-valid, needs),
+      (
+        write-named (table (a .a) (a .cells .now)) _ _ _ (k .check .ensures) [] (c .before .enum-told .given .1),
+        write-short (table (a .a) (a .cells .now)) _ _ _ (k .check .ensures) [] (c .before .enum-told .given .1),
+      ),
+    )
 
 returns : tie.Need-returns
 returns c = (search (write-refused, needs), search (write-kept, needs))
@@ -36,7 +41,7 @@ write-spec =
     check-requires
     enum-known-r
     enum-told
-    print-all-requires
+    print-requires
     returns
     same-length
     returns-2)

@@ -1,12 +1,12 @@
+use mathlib.Core.Path.{refl}
 use native.Mathlib.Omega.{arith}
 use lib.Count.{trailingZeros}
 use lib.ListN.{length}
 use lib.Pow.{pow-pos}
-use Rattle.emit.proofs.Buffer.{left-all}
 use Rattle.names.proofs.Names.{name-lent, lent-length, named-lowest, named-rest}
-use Rattle.writer.proofs.Lines.{signals-again, signals-done}
+use Rattle.writer.proofs.Lines.{signals-next, signals-none}
 use Prim.Native.Nat.{_^_, _<_}
-use Rattle.emit.proofs.Buffer.{Left}
+use Rattle.emit.proofs.Buffer.{Left, left-all, left-next, left-none}
 use Rattle.names.specs.Names.{texts, Named}
 use Rattle.writer.specs.Rows.{signalLines}
 use borrow.Author.Needs.{needs}
@@ -28,7 +28,7 @@ below c =
     omega (arith, named-lowest _ (l .loop .left) (l .loop .inv .0) (c .before .loop-test .taken) (l .loop .inv .1), lent-length names, c .lowest .ensures)
 
 loop-holds : tie.Need-loop-holds Inv-loop μ-loop
-loop-holds c = (search needs, search needs, left-all _ _ _)
+loop-holds c = (search needs, search needs, left-all _ _ _ _ refl)
 
 lowest-requires : tie.Need-lowest-requires Inv-loop μ-loop
 lowest-requires c κs = search needs
@@ -62,15 +62,17 @@ loop-again c =
     let more = s .before .loop-test .taken in (
       omega (arith, c .rest .ensures),
       rw (c .rest .ensures) (named-rest _ (l .loop .left) (l .loop .inv .0) more (l .loop .inv .1)),
-      signals-again _ _ _ _ _ _ _ _ (l .loop .inv .2) (l .loop .inv .0) more _ (s .lowest .ensures) _ (p .before .before .before .contains .ensures)
-          _ (name-lent (l .before .before .args .names .now) _ _ (below s)) _ _ (p .signal-line .ensures) _ (c .rest .ensures),
+      left-next _ _ _ _ _ _ (l .loop .inv .2) _ _ _ _
+          (signals-next _ _ _ (l .loop .inv .0) more _ (s .lowest .ensures) _ (p .before .before .before .contains .ensures)
+          _ (name-lent (l .before .before .args .names .now) _ _ (below s)) _ (c .rest .ensures))
+          (p .signal-line .ensures),
     )
 
 same-length : tie.Need-same-length Inv-loop μ-loop
 same-length c = search needs
 
 returns : tie.Need-returns Inv-loop μ-loop
-returns c = signals-done _ _ _ _ _ _ _ _ (c .before .loop .inv .2) (c .loop-test .left)
+returns c = left-none _ _ _ _ _ _ (c .before .loop .inv .2) (signals-none _ _ _ (c .loop-test .left))
 
 pub signal-lines-spec : {M : Type 1} → statement M
 signal-lines-spec =

@@ -5,11 +5,11 @@ use lib.Count.{trailingZeros}
 use lib.ListN.{length}
 use lib.Pow.{pow-pos}
 use Rattle.sets.proofs.Visit.{low}
-use Rattle.emit.proofs.Buffer.{Left}
+use Rattle.emit.proofs.Buffer.{Left, left-all, left-next, left-none}
 use Rattle.names.specs.Names.{texts, Named}
 use Rattle.names.proofs.Names.{lent-length, named-lowest, named-rest}
 use Rattle.writer.specs.Rows.{stateLines}
-use Rattle.writer.proofs.Lines.{stepsBy, steps-all, steps-again, steps-done}
+use Rattle.writer.proofs.Lines.{stepsBy, steps-by, steps-next, steps-none}
 use borrow.Author.Needs.{needs}
 use Rattle.writer.proofs.rows.state_lines.Statement.{statement}
 use Rattle.writer.proofs.rows.state_lines.Tie as tie
@@ -40,7 +40,7 @@ mul-first c = search needs
 loop-holds : tie.Need-loop-holds Inv-loop μ-loop
 loop-holds c =
     let s = c .before .before in
-    (search needs, refl, s .pre .0 .named, steps-all _ _ _ (s .args .state) _ (s .pre .0) (s .pre .1) _ _)
+    (search needs, refl, s .pre .0 .named, left-all _ _ _ _ (steps-by _ _ _ (s .args .state) _ (s .pre .0) (s .pre .1)))
 
 lowest-requires : tie.Need-lowest-requires Inv-loop μ-loop
 lowest-requires c κs = search needs
@@ -78,15 +78,17 @@ loop-again c =
       omega (arith, c .rest .ensures),
       l .loop .inv .1,
       rw (c .rest .ensures) (named-rest _ (l .loop .left) (l .loop .inv .0) more (l .loop .inv .2)),
-      steps-again (s .args .states) (s .args .cells .now) _ _ _ _ _ _ (s .args .state) _ (l .loop .left) _ (l .loop .inv .1) (l .loop .inv .3) (l .loop .inv .0) more
-          (s .pre .1) (s .pre .0 .size) (v .lowest .ensures) _ _ (p .cell-line .ensures) _ (c .rest .ensures),
+      left-next _ _ _ _ _ _ (l .loop .inv .3) _ _ _ _
+          (steps-next (s .args .states) (s .args .cells .now) _ (s .args .state) _ (l .loop .left) _ (l .loop .inv .1) (l .loop .inv .0) more (s .pre .1) (s .pre .0 .size)
+          (v .lowest .ensures) _ (c .rest .ensures))
+          (p .cell-line .ensures),
     )
 
 same-length : tie.Need-same-length Inv-loop μ-loop
 same-length c = search needs
 
 returns : tie.Need-returns Inv-loop μ-loop
-returns c = steps-done _ _ _ _ _ _ _ _ _ (c .before .loop .left) (c .before .loop .inv .3) (c .loop-test .left)
+returns c = left-none _ _ _ _ _ _ (c .before .loop .inv .3) (steps-none _ _ _ _ (c .before .loop .left) (c .loop-test .left))
 
 pub state-lines-spec : {M : Type 1} → statement M
 state-lines-spec =

@@ -1,9 +1,9 @@
 use Prim.Native.Nat.{_-_, _≤_}
 use native.Mathlib.Omega.{arith}
-use Rattle.emit.proofs.Buffer.{Left}
+use Rattle.emit.proofs.Buffer.{Left, left-all, left-next, left-none}
 use Rattle.names.specs.Names.{texts}
 use Rattle.writer.specs.Rows.{stepLines}
-use Rattle.writer.proofs.Lines.{rowsFrom, rows-all, rows-again, rows-done}
+use Rattle.writer.proofs.Lines.{rowsFrom, rows-all, rows-next, rows-none}
 use borrow.Author.Needs.{needs}
 use Rattle.writer.proofs.rows.step_lines.Statement.{statement}
 use Rattle.writer.proofs.rows.step_lines.Tie as tie
@@ -16,7 +16,7 @@ abbrev μ-loop : tie.MeasureT-loop
 μ-loop d₀ at states cells signals names end₀ s₀ d end s = states - s
 
 loop-holds : tie.Need-loop-holds Inv-loop μ-loop
-loop-holds c = (omega arith, rows-all _ _ _ _ _)
+loop-holds c = (omega arith, left-all _ _ _ _ (rows-all _ _ _))
 
 state-lines-requires : tie.Need-state-lines-requires Inv-loop μ-loop
 state-lines-requires c κs = search needs
@@ -33,7 +33,7 @@ loop-again c =
     let l = i .before .loop in
     let a = i .before .before .before .before .args in (
       omega arith,
-      rows-again (a .states) (a .cells .now) (texts (a .names .now)) _ _ _ _ _ (l .s) (l .inv .1) (i .loop-test .taken) _ _ (c .before .before .state-lines .ensures),
+      left-next _ _ _ _ _ _ (l .inv .1) _ _ _ _ (rows-next (a .states) (a .cells .now) (texts (a .names .now)) (l .s) (i .loop-test .taken)) (c .before .before .state-lines .ensures),
     )
 
 same-length : tie.Need-same-length Inv-loop μ-loop
@@ -43,7 +43,7 @@ returns : tie.Need-returns Inv-loop μ-loop
 returns c =
     let l = c .before .loop in
     let a = c .before .before .before .before .args in
-    rows-done (a .states) (a .cells .now) (texts (a .names .now)) _ _ _ _ _ (l .s) (l .inv .1) (omega arith)
+    left-none _ _ _ _ _ _ (l .inv .1) (rows-none (a .states) (a .cells .now) (texts (a .names .now)) (l .s) (omega arith))
 
 pub step-lines-spec : {M : Type 1} → statement M
 step-lines-spec =

@@ -1,0 +1,94 @@
+// How long a table's text is, found before anything is written: check 23 leaves the lent buffer as it was. What is said of the size of a result
+// is far from sharp; it is there because sums must not overflow.
+ghost use mathlib.Core.Path.{_≡_};
+ghost use Prim.Native.Nat.{_*_, _^_, _≤_, _<_};
+ghost use lib.Bits.{bitOr};
+ghost use lib.ListN.{length};
+ghost use Rattle.theory.specs.Table.{table};
+ghost use Rattle.theory.specs.Valid.{Valid};
+ghost use Rattle.text.specs.Writing.{textLength};
+ghost use Rattle.emit.specs.Rows.{signalText};
+ghost use Rattle.names.specs.Names.{texts, Named};
+ghost use Rattle.writer.specs.Rows.{signalLines, cellText, stateLines, stepLines, Writable};
+use theory::Automaton;
+
+// A declaration.
+fn signal_line(input: bool, name: &[u8]) -> usize
+    requires { ⌜ length (now name) ≤ 16 ⌝ }
+    ensures { λ r. ⌜ (r ≡ length (signalText input (now (name .entry)))) × (r ≤ 21) ⌝ }
+{
+    if input {
+        return name.len() + 4;
+    }
+    name.len() + 5
+}
+
+// The declarations of a set of signals.
+fn signal_lines(signals: u32, inputs: u32, names: &[&[u8]]) -> usize
+    requires { ⌜ Named signals (texts (now names)) ⌝ }
+    ensures { λ r. ⌜ (r ≡ length (signalLines signals inputs (texts (now (names .entry))))) × (r ≤ 21 * 2 ^ 32) ⌝ }
+{
+    let mut total = 0;
+    let mut left = signals;
+    while left != 0 {
+        let s = sets::lowest(left) as usize;
+        let input = sets::contains(inputs, s);
+        total += signal_line(input, names[s]);
+        left = sets::rest(left);
+    }
+    total
+}
+
+// The line of a cell, if it holds a step.
+fn cell_line(states: usize, from: usize, name: &[u8], cell: u16) -> usize
+    requires { ⌜ length (now name) ≤ 16 ⌝ }
+    ensures { λ r. ⌜ (r ≡ length (cellText states from (now (name .entry)) cell)) × (r ≤ 34) ⌝ }
+{
+    let to = cell as usize;
+    if states <= to {
+        return 0;
+    }
+    name.len() + emit::width(from) + emit::width(to) + 8
+}
+
+// The steps of a state.
+fn state_lines(states: usize, cells: &[u16], state: usize, signals: u32, names: &[&[u8]]) -> usize
+    requires { ⌜ Writable states (now cells) signals (texts (now names)) ⌝ }
+    requires { ⌜ state < states ⌝ }
+    ensures { λ r. ⌜ (r ≡ length (stateLines states (now (cells .entry)) (texts (now (names .entry))) state)) × (r ≤ 34 * 2 ^ 32) ⌝ }
+{
+    let first = state * 32;
+    let mut total = 0;
+    let mut left = signals;
+    while left != 0 {
+        let s = sets::lowest(left) as usize;
+        total += cell_line(states, state, names[s], cells[first + s]);
+        left = sets::rest(left);
+    }
+    total
+}
+
+// All steps.
+fn step_lines(states: usize, cells: &[u16], signals: u32, names: &[&[u8]]) -> usize
+    requires { ⌜ Writable states (now cells) signals (texts (now names)) ⌝ }
+    ensures { λ r. ⌜ (r ≡ length (stepLines states (now (cells .entry)) (texts (now (names .entry))))) × (r ≤ states * (34 * 2 ^ 32)) ⌝ }
+{
+    let mut total = 0;
+    for s in 0..states {
+        total += state_lines(states, cells, s, signals, names);
+    }
+    total
+}
+
+// The whole text.
+pub fn text(a: Automaton, cells: &[u16], name: &[u8], names: &[&[u8]]) -> usize
+    requires { ⌜ Valid (table a (now cells)) ⌝ }
+    requires { ⌜ Named (bitOr (a .inputs) (a .outputs)) (texts (now names)) ⌝ }
+    requires { ⌜ length (now name) ≤ 16 ⌝ }
+    ensures { λ r. ⌜ r ≡ textLength (table a (now (cells .entry))) (now (name .entry)) (texts (now (names .entry))) ⌝ }
+{
+    let head = name.len() + emit::width(a.states) + emit::width(a.initial) + 9;
+    let signals = automaton::declared(a);
+    let middle = signal_lines(signals, a.inputs, names);
+    head + middle + step_lines(a.states, cells, signals, names)
+}
