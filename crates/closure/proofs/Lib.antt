@@ -4,3 +4,4 @@ pub mod Walks
 pub mod Turns
 pub mod Seeds
 pub mod Replies
+pub mod Rooms
