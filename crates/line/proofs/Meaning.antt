@@ -1,4 +1,4 @@
--- What the entry of a line, and the reply of `parse`, say of the line: where its name stands, that names and numbers keep their rules.
+-- What the entry of a line, and the reply of `says`, say of the line: where its name stands, that names and numbers keep their rules.
 use mathlib.Core.Path.{_≡_, refl, sym, ap, subst, _∙_}
 use mathlib.Core.Bool.{Bool, true, false, _&&_, cond}
 use mathlib.Core.List.{List, [], _∷_}
@@ -256,7 +256,7 @@ module _ (p : Place) (l : List ℕ) where
           }
       go Unknown q = absurd (not-refused 14 (step from n to) refl q)
 
--- ---- the reply of `parse`
+-- ---- the reply of `says`
 
 pub record TableReply (p : Place) (l : List ℕ) (states initial : ℕ) : Type 0 where
   pub entry : parse p l ≡ table states initial

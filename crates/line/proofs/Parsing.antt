@@ -1,4 +1,4 @@
--- Laws for `kind_of` and `parse`, by what the code knows at each return.
+-- Laws for `kind_of` and `says`, by what the code knows at each return.
 use mathlib.Core.Path.{_≡_, refl, sym, ap, _∙_}
 use mathlib.Core.Bool.{Bool, true, false, _&&_, cond}
 use mathlib.Core.List.{List, [], _∷_}
@@ -71,7 +71,7 @@ by-kind p k fs = go (same k tableWord) (same k (roleWord Input)) (same k (roleWo
     go false false false true = refl
     go false false false false = refl
 
--- ---- parse
+-- ---- says
 
 -- Neither a table nor a declaration has a place in its reply.
 table-anywhere : (a : ℕ) (p : Place) (fs : List (List ℕ)) → placed 0 (tableLine p fs) ≡ placed a (tableLine p fs)

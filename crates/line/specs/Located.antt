@@ -1,14 +1,19 @@
--- The reply of `parse`: an entry's fields, a name in them by where it stands in its line; and what its functions find on the way.
+-- The replies of `says` and `parse`: an entry's fields, a name in them by where it stands in its line; and what its functions find on the way.
 use mathlib.Core.Bool.{Bool, true, false, _&&_, cond}
 use mathlib.Core.List.{List, [], _∷_}
 use Prim.Native.Nat.{ℕ, _+_}
-use lib.ListN.{length, drop}
+use lib.Dec.{ltb}
+use lib.ListN.{length, take, drop}
+use Rattle.text.specs.declared.Place.{Place}
 use Rattle.text.specs.declared.Role.the-variants.{Input, Output}
 use Rattle.text.specs.Fields.{split, upto, same, nameOk, value, numberOk}
-use Rattle.text.specs.Lines.{Entry, table, declaration, step, refused, tableWord, roleWord, stepWord}
+use Rattle.text.specs.Lines.{Entry, table, declaration, step, refused, tableWord, roleWord, stepWord, parse}
 use Rattle.line.specs.declared.Record.the-variants.{Table, Declaration, Step}
 use Rattle.line.specs.declared.Parsed.{Parsed}
 use Rattle.line.specs.declared.Parsed.the-variants.{Fields, Refused}
+use Rattle.line.specs.declared.Line.{Line}
+use Rattle.line.specs.declared.Line.the-variants.{Taken}
+use Rattle.line.specs.declared.Line.the-variants.{Refused as NoLine}
 use Rattle.line.specs.declared.Kind.{Kind}
 use Rattle.line.specs.declared.Kind.the-variants.{TableLine, DeclarationLine, StepLine, Unknown}
 use Rattle.line.specs.declared.Cut.{Cut}
@@ -35,6 +40,17 @@ stepName l = upto 9 l + 1 + upto 9 (afterKind l) + 1
 
 abbrev pub located : List ℕ → Entry → Parsed
 located l e = placed (stepName l) e
+
+-- The reply for a line of n bytes.
+abbrev pub measured : ℕ → Parsed → Line
+measured n (Fields r) = Taken r n
+measured n (Refused k) = NoLine k
+
+-- For the first line of s: 14 where it lacks its LF.
+unfoldable pub firstLine : Place → List ℕ → Line
+firstLine p s =
+    cond (ltb (upto 10 s) (length s))
+    (measured (upto 10 s) (located (take (upto 10 s) s) (parse p (take (upto 10 s) s)))) (NoLine 14)
 
 -- ---- on the way
 

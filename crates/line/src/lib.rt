@@ -4,10 +4,13 @@ ghost use Prim.Native.Nat.{_+_, _≤_};
 ghost use lib.ListN.{length, drop};
 ghost use Rattle.text.specs.Fields.{split, upto};
 ghost use Rattle.text.specs.Lines.{roleWord, takesTable, takesDeclaration, takesStep, tableLine, declarationLine, stepLine, parse as entry};
-ghost use Rattle.line.specs.Located.{kindOf, threeFields, judgement, placed, located};
+ghost use Rattle.line.specs.Located.{kindOf, threeFields, judgement, placed, located, measured, firstLine};
+use quick::Quick;
 use text::Number;
 use text::Place;
 use text::Role;
+
+mod quick;
 
 // A step's name stands from the byte `start` of the line on, before the byte `end`; a declared name from the byte `name_start` on, to the
 // end of the line.
@@ -25,6 +28,13 @@ pub enum Record {
     },
 }
 
+// A line's record and its length without the LF, or the number of its refusal.
+pub enum Line {
+    Taken(Record, usize),
+    Refused(u32),
+}
+
+// The same of a line by itself.
 pub enum Parsed {
     Fields(Record),
     Refused(u32),
@@ -211,7 +221,7 @@ fn step_line(line: &[u8], at: usize, place: Place) -> Parsed
 }
 
 // What a line, without its LF, says at its place.
-pub fn parse(line: &[u8], place: Place) -> Parsed
+fn says(line: &[u8], place: Place) -> Parsed
     ensures { λ r. ⌜ r ≡ located (now (line .entry)) (entry place (now (line .entry))) ⌝ }
 {
     let tab = scan::find(line, b'\t');
@@ -225,4 +235,53 @@ pub fn parse(line: &[u8], place: Place) -> Parsed
         Kind::StepLine => step_line(line, tab + 1, place),
         Kind::Unknown => Parsed::Refused(14),
     }
+}
+
+// The reply for a line of this length.
+fn of_length(parsed: Parsed, length: usize) -> Line
+    ensures { λ r. ⌜ r ≡ measured length parsed ⌝ }
+{
+    match parsed {
+        Parsed::Fields(record) => Line::Taken(record, length),
+        Parsed::Refused(number) => Line::Refused(number),
+    }
+}
+
+// What the first line of a text says at its place, where its LF is looked for first.
+fn parse_slowly(s: &[u8], place: Place) -> Line
+    ensures { λ r. ⌜ r ≡ firstLine place (now (s .entry)) ⌝ }
+{
+    let length = scan::find(s, b'\n');
+    if s.len() <= length {
+        return Line::Refused(14);
+    }
+    of_length(says(scan::before(s, length), place), length)
+}
+
+// What the first line of a text says at its place: 14 where it lacks its LF.
+pub fn parse(s: &[u8], place: Place) -> Line
+    ensures { λ r. ⌜ r ≡ firstLine place (now (s .entry)) ⌝ }
+{
+    if !takes_step(place) {
+        return parse_slowly(s, place);
+    }
+    let Quick::Step {
+        from,
+        start,
+        end,
+        to,
+        length,
+    } = quick::step_line(s)
+    else {
+        return parse_slowly(s, place);
+    };
+    Line::Taken(
+        Record::Step {
+            from,
+            start,
+            end,
+            to,
+        },
+        length,
+    )
 }

@@ -27,10 +27,8 @@ module _ (bytes : List ℕ) (at end : ℕ) where
       drop-take k (end - at) (drop at bytes) ∙ rw (drop-drop k at bytes, z)
 
   -- A part of a line.
-  pub part-part : (a e : ℕ) → a ≤ e → e ≤ end - at → take (e - a) (drop a (take (end - at) (drop at bytes))) ≡ take (at + e - (at + a)) (drop (at + a) bytes)
-  part-part a e h g =
-      let z : at + e - (at + a) ≡ e - a = omega arith in
-      ap (take (e - a)) (part-rest a) ∙ take-take (e - a) (end - (at + a)) (drop (at + a) bytes) (omega arith) ∙ rw z
+  pub part-part : (a e : ℕ) → a ≤ e → e ≤ end - at → take (e - a) (drop a (take (end - at) (drop at bytes))) ≡ take (e - a) (drop (at + a) bytes)
+  part-part a e h g = ap (take (e - a)) (part-rest a) ∙ take-take (e - a) (end - (at + a)) (drop (at + a) bytes) (omega arith)
 
 -- ---- the lines from the k-th on, which begins at the byte `at` and is e bytes long
 

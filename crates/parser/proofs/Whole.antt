@@ -4,17 +4,25 @@ use mathlib.Core.Bool.{true, false}
 use mathlib.Core.List.{List, [], _∷_}
 use Prim.Native.Nat.{ℕ, _+_, _-_, _<_, _≤_}
 use native.Mathlib.Omega.{arith}
-use lib.ListN.{length, take, drop}
+use native.Mathlib.Decide.{decLt}
+use lib.ListN.{length, take, drop, length-drop}
 use borrow.Author.Tests.{lt-ltb, le-ltb}
+use Rattle.text.specs.declared.Place.{Place}
 use Rattle.text.specs.Fields.{upto, split}
 use Rattle.text.specs.Lines.{parse}
-use Rattle.text.specs.Reading.{Result, next, stop, Outcome, onward, entered, isNil, fresh, readLines, readFrom}
+use Rattle.text.specs.Reading.{next, stop, Outcome, refuseAt, onward, entered, isNil, fresh, readLines, readFrom}
+use Rattle.line.specs.declared.Record.{Record}
+use Rattle.line.specs.declared.Line.{Line}
+use Rattle.line.specs.declared.Line.the-variants.{Taken}
+use Rattle.line.specs.declared.Line.the-variants.{Refused as NoLine}
+use Rattle.line.specs.Located.{firstLine}
+use Rattle.line.proofs.OnePass.{LineTaken, LineRefused, line-taken, line-refused}
 use Rattle.parser.specs.declared.Signals.{Signals}
 use Rattle.parser.specs.declared.State.{State}
 use Rattle.parser.specs.declared.entries.Advanced.{Advanced}
 use Rattle.parser.specs.declared.Told.{Told}
 use Rattle.signals.specs.Names.{textOf}
-use Rattle.parser.specs.State.{signalsOf, reading, result, Fit, freshState, Sound, InText, Enters, Blank, ReadsLines, Reads}
+use Rattle.parser.specs.State.{signalsOf, reading, result, Fit, freshState, Sound, InText, Enters, Blank, Says, numberIn, ReadsLines, Reads}
 use Rattle.parser.proofs.Lines.{lines-done, lines-unended, lines-onward}
 
 abbrev refusing : ℕ → ℕ → ℕ → State → Told
@@ -24,12 +32,25 @@ refusing n text line st = record { refused = true; refusal = record { number = n
 pub fresh-sound : (s : Signals) (st : State) (cells : List ℕ) → st ≡ freshState s → Blank s cells → Sound st (length cells)
 fresh-sound s st cells e b = rw e (record { fit = b .fit; small = omega arith; wide = omega arith })
 
--- A line stands in its text.
-pub in-text : (m p t : List ℕ) (text at end : ℕ) → t ≡ textOf m p text → length (textOf m p text) ≤ 65536 → at ≤ end → end < length t → InText m p text at end
-in-text m p t text at end e short h k = record { short = short; from-to = h; below = rw e at k }
-
 pub short-text : (t bytes : List ℕ) → t ≡ bytes → (65536 < length t → ⊥) → length bytes ≤ 65536
 short-text t bytes e h = let short : length t ≤ 65536 = omega (arith, h) in rw e at short
+
+-- ---- the line from the byte `at` on, which was taken
+
+module _ (bytes : List ℕ) (at : ℕ) (u : List ℕ) (rest : u ≡ drop at bytes) (place : Place) (l : Line) (read : l ≡ firstLine place u)
+    (fields : Record) (e : ℕ) (taken : l ≡ Taken fields e) where
+  taken-line : LineTaken place (drop at bytes) fields e
+  taken-line = rw rest at (line-taken place u l read fields e taken)
+
+  pub line-ends : at + e < length bytes
+  line-ends = omega (arith, taken-line .within, length-drop at bytes)
+
+  module _ (m p : List ℕ) (text : ℕ) (same : bytes ≡ textOf m p text) (end : ℕ) (ends : end ≡ at + e) where
+    pub line-says : length (textOf m p text) ≤ 65536 → Says m p text at end place fields
+    line-says short = record {
+      inside = record { short = short; from-to = omega arith; below = rw same at (let b : end < length bytes = omega (arith, line-ends) in b) };
+      told = rw (← same, let z : end - at ≡ e = omega arith in z) (taken-line .told);
+    }
 
 -- ---- lines, one after the other: st₀ and cells₀ are the state and the cells before the first
 
@@ -51,36 +72,45 @@ module _ (m p : List ℕ) (text : ℕ) (s : Signals) (st₀ : State) (begun : st
         → ReadsLines m p text s room (record { refused = false; refusal = record { number = 0; text = 0; line = 0 }; state = st }) cells
     told-done h = record { fit = fit; means = so _ (sym (lines-done text k (reading m p st cells) bytes at h)) }
 
-    module _ (u : List ℕ) (rest : u ≡ drop at bytes) (e : ℕ) (line : e ≡ upto 10 u) (h : at < length bytes) where
-      there : e ≡ upto 10 (drop at bytes)
-      there = line ∙ ap (upto 10) rest
+    module _ (h : at < length bytes) (u : List ℕ) (rest : u ≡ drop at bytes) (l : Line) (read : l ≡ firstLine (st .place) u) where
+      pub told-unread : (i : ℕ) → l ≡ NoLine i → (n : ℕ) → n ≡ numberIn l → (r : Told) → r ≡ refusing n text k st → ReadsLines m p text s room r cells
+      unfolding entered
+      told-unread i e n f r g =
+          let d : LineRefused (st .place) (drop at bytes) i = rw rest at (line-refused (st .place) u l read i e) in
+          let z : n ≡ i = f ∙ ap numberIn e in
+          let x : refuseAt i text k ≡ readLines text k at (reading m p st cells) (split 10 (drop at bytes)) =
+          elim (decLt (upto 10 (drop at bytes)) (length (drop at bytes))) [
+            | yes w ↦ sym (lines-onward text k (reading m p st cells) bytes at _ refl (omega (arith, length-drop at bytes)) ∙ rw (d .told w))
+            | no w ↦ sym (lines-unended text k (reading m p st cells) bytes at _ refl h (omega (arith, length-drop at bytes)) ∙ rw (d .unended (omega arith)))
+          ] in
+          rw (g, z) (record { fit = fit; means = so _ x })
 
-      pub told-unended : length bytes - at ≤ e → (r : Told) → r ≡ refusing 14 text k st → ReadsLines m p text s room r cells
-      told-unended g r f =
-          rw f (record { fit = fit; means = so _ (sym (lines-unended text k (reading m p st cells) bytes at e there h (omega arith))) })
+      module _ (fields : Record) (e : ℕ) (taken : l ≡ Taken fields e) where
+        line : LineTaken (st .place) (drop at bytes) fields e
+        line = taken-line bytes at u rest (st .place) l read fields e taken
 
-      module _ (g : e < length bytes - at) (end : ℕ) (ends : end ≡ at + e) (q : Advanced) (cells′ : List ℕ) (d : Enters m p text at end st cells q cells′) where
-        step : result m p q cells′ ≡ entered text at (reading m p st cells) (parse (st .place) (take e (drop at bytes)))
-        step = d .means ∙ rw (same, let z : end - at ≡ e = omega arith in z)
+        ends-within : at + e < length bytes
+        ends-within = line-ends bytes at u rest (st .place) l read fields e taken
 
-        goes : (Result → Outcome) → Type 0
-        goes f = f (result m p q cells′) ≡ readLines text k at (reading m p st cells) (split 10 (drop at bytes))
+        module _ (end : ℕ) (ends : end ≡ at + e) (q : Advanced) (cells′ : List ℕ) (d : Enters m p text at end st cells q cells′) where
+          step : result m p q cells′ ≡ entered text at (reading m p st cells) (parse (st .place) (take e (drop at bytes)))
+          step = d .means ∙ rw (same, let z : end - at ≡ e = omega arith in z)
 
-        pub told-refused : q .refused ≡ true → (r : Told) → r ≡ refusing (q .number) text k st → ReadsLines m p text s room r cells′
-        told-refused o r f =
-            let x : stop (q .number) ≡ entered text at (reading m p st cells) (parse (st .place) (take e (drop at bytes))) = simp o at step in
-            rw f (record {
-              fit = fit;
-              means = so _ (ap (λ y. onward text k y (λ st. readLines text (k + 1) (at + e + 1) st (split 10 (drop (at + e + 1) bytes)))) x
-                  ∙ sym (lines-onward text k (reading m p st cells) bytes at e there (omega arith)));
-            })
+          pub told-refused : q .refused ≡ true → (r : Told) → r ≡ refusing (q .number) text k st → ReadsLines m p text s room r cells′
+          told-refused o r f =
+              let x : stop (q .number) ≡ entered text at (reading m p st cells) (parse (st .place) (take e (drop at bytes))) = simp o at step in
+              rw f (record {
+                fit = fit;
+                means = so _ (ap (λ y. onward text k y (λ st. readLines text (k + 1) (at + e + 1) st (split 10 (drop (at + e + 1) bytes)))) x
+                    ∙ sym (lines-onward text k (reading m p st cells) bytes at e (line .line) ends-within));
+              })
 
-        pub told-next : q .refused ≡ false
-            → readLines text (k + 1) (end + 1) (reading m p (q .state) cells′) (split 10 (drop (end + 1) bytes)) ≡ whole bytes
-        told-next o =
-            let x : next (reading m p (q .state) cells′) ≡ entered text at (reading m p st cells) (parse (st .place) (take e (drop at bytes))) = simp o at step in
-            rw ends (ap (λ y. onward text k y (λ st. readLines text (k + 1) (at + e + 1) st (split 10 (drop (at + e + 1) bytes)))) x
-            ∙ sym (lines-onward text k (reading m p st cells) bytes at e there (omega arith)) ∙ inv)
+          pub told-next : q .refused ≡ false
+              → readLines text (k + 1) (end + 1) (reading m p (q .state) cells′) (split 10 (drop (end + 1) bytes)) ≡ whole bytes
+          told-next o =
+              let x : next (reading m p (q .state) cells′) ≡ entered text at (reading m p st cells) (parse (st .place) (take e (drop at bytes))) = simp o at step in
+              rw ends (ap (λ y. onward text k y (λ st. readLines text (k + 1) (at + e + 1) st (split 10 (drop (at + e + 1) bytes)))) x
+              ∙ sym (lines-onward text k (reading m p st cells) bytes at e (line .line) ends-within) ∙ inv)
 
 -- ---- a text: 13, its lines, 22
 

@@ -6,13 +6,17 @@ use Prim.Native.Nat.{ℕ, _-_, _*_, _<_, _≤_}
 use lib.Dec.{leb}
 use lib.ListN.{length, take, drop, replicate}
 use Rattle.theory.specs.declared.Automaton.{Automaton}
+use Rattle.text.specs.declared.Place.{Place}
 use Rattle.text.specs.declared.Place.the-variants.{Head}
 use Rattle.text.specs.declared.Role.{Role}
 use Rattle.text.specs.Fields.{split}
 use Rattle.text.specs.Lines.{parse}
 use Rattle.text.specs.Reading.{Signal, Reading, Result, next, stop, Outcome, finished, ended, Joint, both, neither, indexOf, known, started, declaring, stepping, entered, fresh, readLines, readFrom, readAlone, readBoth}
-use Rattle.line.specs.declared.Parsed.{Parsed}
-use Rattle.line.specs.declared.Parsed.the-variants.{Fields, Refused}
+use Rattle.line.specs.declared.Record.{Record}
+use Rattle.line.specs.declared.Parsed.the-variants.{Fields}
+use Rattle.line.specs.declared.Line.{Line}
+use Rattle.line.specs.declared.Line.the-variants.{Taken, Refused}
+use Rattle.line.specs.Located.{located}
 use Rattle.signals.specs.declared.Name.{Name}
 use Rattle.signals.specs.Names.{isDeclared, textOf, nameAt}
 use Rattle.parser.specs.declared.Signals.{Signals}
@@ -91,16 +95,16 @@ pub record Steps (m p : List ℕ) (st : State) (cells : List ℕ) (from : ℕ) (
   pub sound : Sound (r .state) (length cells′)
   pub means : result m p r cells′ ≡ stepping (reading m p st cells) from (indexOf (nameAt m p name) (signalsOf m p (st .signals))) to
 
--- The number of a refused line; 0 of any other.
-abbrev pub numberIn : Parsed → ℕ
-numberIn (Refused n) = n
-numberIn (Fields r) = 0
-
 -- A line of a text of 65,536 bytes at most, its LF not included.
 pub record InText (m p : List ℕ) (text at end : ℕ) : Type 0 where
   pub short : length (textOf m p text) ≤ 65536
   pub from-to : at ≤ end
   pub below : end < length (textOf m p text)
+
+-- Such a line, and what it says, as a record.
+pub record Says (m p : List ℕ) (text at end : ℕ) (place : Place) (r : Record) : Type 0 where
+  pub inside : InText m p text at end
+  pub told : Fields r ≡ located (take (end - at) (drop at (textOf m p text))) (parse place (take (end - at) (drop at (textOf m p text))))
 
 pub record Enters (m p : List ℕ) (text at end : ℕ) (st : State) (cells : List ℕ) (r : Advanced) (cells′ : List ℕ) : Type 0 where
   pub sound : Sound (r .state) (length cells′)
@@ -113,6 +117,11 @@ freshState s = record { place = Head; header = record { states = 0; initial = 0;
 
 abbrev pub outcome : List ℕ → List ℕ → Told → List ℕ → Outcome
 outcome m p r cells = cond (r .refused) (ended (r .refusal)) (finished (reading m p (r .state) cells))
+
+-- The number of a refused line; 0 of any other.
+abbrev pub numberIn : Line → ℕ
+numberIn (Refused k) = k
+numberIn (Taken r n) = 0
 
 -- Cells without a step.
 pub record Blank (s : Signals) (cells : List ℕ) : Type 0 where

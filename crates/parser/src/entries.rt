@@ -5,10 +5,9 @@ ghost use Prim.Native.Nat.{_<_};
 ghost use lib.Dec.{eqb};
 ghost use lib.ListN.{length, getD, set};
 ghost use Rattle.text.specs.Reading.{withRole};
-ghost use Rattle.parser.specs.State.{gone, halted, lacking, numberIn, Putable, Sound, Starts, Declares, Steps, Enters, InText};
+ghost use Rattle.parser.specs.State.{gone, halted, lacking, Putable, Sound, Starts, Declares, Steps, Enters, Says};
 use crate::State;
 use crate::numbering;
-use line::Parsed;
 use line::Record;
 use signals::Name;
 use text::Place;
@@ -171,51 +170,38 @@ fn step<'a>(
     })
 }
 
-// The number of a refused line; 0 of any other.
-fn refusal_of(parsed: Parsed) -> u32
-    ensures { λ r. ⌜ r ≡ numberIn parsed ⌝ }
-{
-    match parsed {
-        Parsed::Refused(number) => number,
-        Parsed::Fields(_) => 0,
-    }
-}
-
 // A part of a text as a name.
-fn named(text: u32, from: usize, to: usize) -> Name
-    requires { ⌜ (from < 65536) × (to < 65536) ⌝ }
-    ensures { λ r. ⌜ r ≡ record { text = text; from = from; to = to } ⌝ }
+fn named(text: u8, from: usize, length: usize) -> Name
+    requires { ⌜ (from < 65536) × (length < 256) ⌝ }
+    ensures { λ r. ⌜ r ≡ record { text = text; length = length; from = from } ⌝ }
 {
     Name {
         text,
+        length: length as u8,
         from: from as u16,
-        to: to as u16,
     }
 }
 
-// The line from byte `at` to byte `end` of a text.
+// The record of the line from byte `at` to byte `end` of a text.
 pub fn enter<'a>(
     m: &'a [u8],
     p: &'a [u8],
-    text: u32,
+    text: u8,
     st: State,
     cells: &mut [u16],
     at: usize,
     end: usize,
+    fields: Record,
 ) -> Advanced
     requires { ⌜ Sound st (length (now cells)) ⌝ }
-    requires { ⌜ InText (now m) (now p) text at end ⌝ }
+    requires { ⌜ Says (now m) (now p) text at end (st .place) fields ⌝ }
     ensures { λ r. ⌜ Enters (now (m .entry)) (now (p .entry)) text at end st (now (cells .entry)) r (now (cells .exit)) ⌝ }
 {
-    let place = st.place;
-    let parsed = line::parse(scan::part(signals::text_of(m, p, text), at, end), place);
-    let Parsed::Fields(record) = parsed else {
-        return stop(refusal_of(parsed), st);
-    };
-    match record {
+    match fields {
         Record::Table { states, initial } => start(st, states, initial, cells.len()),
         Record::Declaration(role) => {
-            let name = named(text, at + line::name_start(role), end);
+            let start = at + line::name_start(role);
+            let name = named(text, start, end - start);
             declare(m, p, st, role, name, cells.len())
         }
         Record::Step {
@@ -224,7 +210,7 @@ pub fn enter<'a>(
             end,
             to,
         } => {
-            let name = named(text, at + start, at + end);
+            let name = named(text, at + start, end - start);
             step(m, p, st, cells, from, name, to)
         }
     }

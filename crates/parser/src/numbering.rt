@@ -1,5 +1,6 @@
 // The signals that a reading has numbered so far, by the places of their names.
 ghost use mathlib.Core.Path.{_≡_};
+ghost use Rattle.text.specs.Fields.{same};
 ghost use Rattle.text.specs.Reading.{indexOf};
 ghost use Rattle.signals.specs.Names.{nameAt};
 ghost use Rattle.parser.specs.State.{signalsOf, Fit, Nobody, Addable, Added};
@@ -13,11 +14,31 @@ pub fn none() -> Signals
     Signals {
         names: [Name {
             text: 0,
+            length: 0,
             from: 0,
-            to: 0,
         }; 32],
         count: 0,
     }
+}
+
+// Whether a name is these bytes. Its length and its last byte tell most names apart, before the part is cut out.
+fn is_named<'a>(m: &'a [u8], p: &'a [u8], name: Name, wanted: &[u8]) -> bool
+    ensures { λ r. ⌜ r ≡ same (nameAt (now (m .entry)) (now (p .entry)) name) (now (wanted .entry)) ⌝ }
+{
+    let text = signals::text_of(m, p, name.text as u32);
+    let length = name.length as usize;
+    let end = name.from as usize + length;
+    if end <= text.len() {
+        if length != wanted.len() {
+            return false;
+        }
+        if 0 < length {
+            if text[end - 1] != wanted[length - 1] {
+                return false;
+            }
+        }
+    }
+    scan::equal(signals::bytes_of(m, p, name), wanted)
 }
 
 // The number of a name: that of the first signal that has it, or the next number.
@@ -31,7 +52,7 @@ pub fn number_of<'a>(m: &'a [u8], p: &'a [u8], signals: Signals, name: Name) -> 
     let mut i: usize = 0;
     while i < count {
         let candidate = names[i];
-        if scan::equal(signals::bytes_of(m, p, candidate), wanted) {
+        if is_named(m, p, candidate, wanted) {
             return i;
         }
         i += 1;

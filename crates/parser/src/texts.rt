@@ -4,7 +4,7 @@ ghost use mathlib.Core.Bool.{true};
 ghost use Prim.Native.Nat.{_≤_};
 ghost use lib.ListN.{length};
 ghost use Rattle.signals.specs.Names.{textOf};
-ghost use Rattle.parser.specs.State.{Fit, freshState, Blank, ReadsLines, Reads, ReadsOne, joined, ReadsBoth};
+ghost use Rattle.parser.specs.State.{Fit, freshState, Blank, numberIn, ReadsLines, Reads, ReadsOne, joined, ReadsBoth};
 use crate::Both;
 use crate::Signals;
 use crate::State;
@@ -12,6 +12,7 @@ use crate::Told;
 use crate::cells;
 use crate::entries;
 use crate::numbering;
+use line::Line;
 use text::Place;
 use text::TextRefusal;
 use theory::Automaton;
@@ -33,33 +34,48 @@ fn fresh(signals: Signals) -> State
 }
 
 // The refusal of a text that ends at a line, or at none.
-fn refuse(number: u32, text: u32, line: usize, state: State) -> Told
+fn refuse(number: u32, text: u8, line: usize, state: State) -> Told
     ensures { λ r. ⌜ r ≡ record { refused = true; refusal = record { number = number; text = text; line = line }; state = state } ⌝ }
 {
     Told {
         refused: true,
-        refusal: TextRefusal { number, text, line },
+        refusal: TextRefusal {
+            number,
+            text: text as u32,
+            line,
+        },
         state,
     }
 }
 
+// The number of a refused line; 0 of any other.
+fn refusal_of(parsed: Line) -> u32
+    ensures { λ r. ⌜ r ≡ numberIn parsed ⌝ }
+{
+    match parsed {
+        Line::Refused(number) => number,
+        Line::Taken(_, _) => 0,
+    }
+}
+
 // The lines of a text, into blank cells. After the last LF nothing may stand (14).
-fn read_lines<'a>(m: &'a [u8], p: &'a [u8], text: u32, signals: Signals, cells: &mut [u16]) -> Told
+fn read_lines<'a>(m: &'a [u8], p: &'a [u8], text: u8, signals: Signals, cells: &mut [u16]) -> Told
     requires { ⌜ Blank signals (now cells) ⌝ }
     requires { ⌜ length (textOf (now m) (now p) text) ≤ 65536 ⌝ }
     ensures { λ r. ⌜ ReadsLines (now (m .entry)) (now (p .entry)) text signals (length (now (cells .entry))) r (now (cells .exit)) ⌝ }
 {
-    let bytes = signals::text_of(m, p, text);
+    let bytes = signals::text_of(m, p, text as u32);
     let mut st = fresh(signals);
     let mut at: usize = 0;
     let mut line: usize = 1;
     while at < bytes.len() {
-        let length = scan::find(scan::after(bytes, at), 10);
-        if bytes.len() - at <= length {
-            return refuse(14, text, line, st);
-        }
+        let place = st.place;
+        let parsed = line::parse(scan::after(bytes, at), place);
+        let Line::Taken(record, length) = parsed else {
+            return refuse(refusal_of(parsed), text, line, st);
+        };
         let end = at + length;
-        let next = entries::enter(m, p, text, st, cells, at, end);
+        let next = entries::enter(m, p, text, st, cells, at, end, record);
         if next.refused {
             return refuse(next.number, text, line, st);
         }
@@ -80,12 +96,12 @@ fn read_lines<'a>(m: &'a [u8], p: &'a [u8], text: u32, signals: Signals, cells: 
 }
 
 // A text, where some signals are numbered already: 13, then its lines; 22.
-fn read<'a>(m: &'a [u8], p: &'a [u8], text: u32, signals: Signals, cells: &mut [u16]) -> Told
+fn read<'a>(m: &'a [u8], p: &'a [u8], text: u8, signals: Signals, cells: &mut [u16]) -> Told
     requires { ⌜ Fit signals ⌝ }
     ensures { λ r. ⌜ Reads (now (m .entry)) (now (p .entry)) text signals (length (now (cells .entry))) r (now (cells .exit)) ⌝ }
 {
     cells::clear(cells);
-    let bytes = signals::text_of(m, p, text);
+    let bytes = signals::text_of(m, p, text as u32);
     if 65536 < bytes.len() {
         return refuse(13, text, 0, fresh(signals));
     }

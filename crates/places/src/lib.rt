@@ -42,7 +42,7 @@ fn place_of<'a>(m: &'a [u8], p: &'a [u8], signals: Signals, signal: usize) -> Fo
     let bytes = signals::bytes_of(m, p, name);
     Found {
         number: 0,
-        text: name.text,
+        text: name.text as u32,
         from,
         length: bytes.len(),
     }

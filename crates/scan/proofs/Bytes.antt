@@ -50,21 +50,6 @@ same-unlike (x ∷ s) (y ∷ t) n = go (eqb x y) (same-unlike s t (λ e. n (ap s
     go true e = e
     go false e = refl
 
-module _ (s t : List ℕ) (n i : ℕ) (l : n ≡ length s) (m : length s ≡ length t) (e : same (drop i s) (drop i t) ≡ same s t) where
-  same-step : i < n → same (drop i s) (drop i t) ≡ (eqb (getD s i 0) (getD t i 0) && same (drop (i + 1) s) (drop (i + 1) t))
-  unfolding same
-  same-step h = rw (drop-step s i (omega arith), drop-step t i (omega arith))
-
-  pub same-differ : i < n → (getD s i 0 ≡ getD t i 0 → ⊥) → false ≡ same s t
-  same-differ h k = sym (simp (ne-eqb (getD s i 0) (getD t i 0) k) at (same-step h)) ∙ e
-
-  pub same-on : i < n → getD s i 0 ≡ getD t i 0 → same (drop (i + 1) s) (drop (i + 1) t) ≡ same s t
-  same-on h k = sym (simp (eq-eqb (getD s i 0) (getD t i 0) k) at (same-step h)) ∙ e
-
-  pub same-all : n ≤ i → true ≡ same s t
-  unfolding same
-  same-all h = rw (drop-of-length-le s {i = i} (omega arith), drop-of-length-le t {i = i} (omega arith)) at e
-
 -- Bytes that differ somewhere are not the same.
 pub same-differ-at : (s t : List ℕ) (i : ℕ) → i < length s → i < length t → (getD s i 0 ≡ getD t i 0 → ⊥) → false ≡ same s t
 unfolding same
@@ -77,11 +62,21 @@ same-differ-at (x ∷ s) (y ∷ t) (suc i) h k d = go (eqb x y) (same-differ-at 
 same-differ-at [] t i h k d = absurd (omega arith)
 same-differ-at (x ∷ s) [] i h k d = absurd (omega arith)
 
-pub same-none : (s t : List ℕ) → length s ≡ 0 → length s ≡ length t → true ≡ same s t
-unfolding same
-same-none [] [] h e = refl
-same-none [] (y ∷ t) h e = absurd (omega arith)
-same-none (x ∷ s) t h e = absurd (omega arith)
+-- From the byte i on they are the same: nothing at their end, one byte more, all.
+module _ (s t : List ℕ) (i : ℕ) where
+  pub same-end : length s ≤ i → length t ≤ i → same (drop i s) (drop i t) ≡ true
+  unfolding same
+  same-end h k = rw (drop-of-length-le s {i = i} h, drop-of-length-le t {i = i} k)
+
+  pub same-more : 0 < i → i ≤ length s → i ≤ length t → same (drop i s) (drop i t) ≡ true → getD s (i - 1) 0 ≡ getD t (i - 1) 0
+      → same (drop (i - 1) s) (drop (i - 1) t) ≡ true
+  unfolding same
+  same-more p h k e d =
+      let z : i - 1 + 1 ≡ i = omega arith in
+      rw (drop-step s (i - 1) (omega arith), drop-step t (i - 1) (omega arith), eq-eqb (getD s (i - 1) 0) (getD t (i - 1) 0) d, z) e
+
+  pub same-all : i ≤ 0 → same (drop i s) (drop i t) ≡ true → true ≡ same s t
+  same-all h e = let z : i ≡ 0 = omega arith in sym (rw z at e)
 
 -- ---- parts
 

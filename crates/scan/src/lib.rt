@@ -16,22 +16,7 @@ pub fn find(s: &[u8], b: u8) -> usize
     s.len()
 }
 
-// Whether a and b are the same bytes, from the first on.
-fn alike(a: &[u8], b: &[u8]) -> bool
-    ensures { λ r. ⌜ r ≡ same (now (a .entry)) (now (b .entry)) ⌝ }
-{
-    if a.len() != b.len() {
-        return false;
-    }
-    for i in 0..a.len() {
-        if a[i] != b[i] {
-            return false;
-        }
-    }
-    true
-}
-
-// The same, but the last byte is compared first: names in one text are often alike up to there.
+// Whether a and b are the same bytes. They are compared from the last on: names in one text are often alike but for their ends.
 pub fn equal(a: &[u8], b: &[u8]) -> bool
     ensures { λ r. ⌜ r ≡ same (now (a .entry)) (now (b .entry)) ⌝ }
 {
@@ -39,13 +24,14 @@ pub fn equal(a: &[u8], b: &[u8]) -> bool
     if n != b.len() {
         return false;
     }
-    if n == 0 {
-        return true;
+    let mut i = n;
+    while 0 < i {
+        i -= 1;
+        if a[i] != b[i] {
+            return false;
+        }
     }
-    if a[n - 1] != b[n - 1] {
-        return false;
-    }
-    alike(a, b)
+    true
 }
 
 // What stands before the byte `at`; all where there is none.

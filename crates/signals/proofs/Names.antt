@@ -2,7 +2,7 @@
 use mathlib.Core.Path.{_≡_, _∙_}
 use mathlib.Core.Bool.{Bool}
 use mathlib.Core.List.{List}
-use Prim.Native.Nat.{ℕ, _-_}
+use Prim.Native.Nat.{ℕ}
 use lib.ListN.{take, drop}
 use lib.Bits.{bitOr}
 use borrow.Author.Tests.{eq-eqb, ne-eqb}
@@ -22,5 +22,5 @@ module _ (m p : List ℕ) where
   pub first-text : (text : ℕ) → (text ≡ 2 → ⊥) → m ≡ textOf m p text
   first-text text e = rw (ne-eqb text 2 e)
 
-  pub name-bytes : (n : Name) (t b : List ℕ) → t ≡ textOf m p (n .text) → b ≡ take (n .to - n .from) (drop (n .from) t) → b ≡ nameAt m p n
-  name-bytes n t b e f = f ∙ rw e
+  pub name-bytes : (n : Name) (t u b : List ℕ) → t ≡ textOf m p (n .text) → u ≡ drop (n .from) t → b ≡ take (n .length) u → b ≡ nameAt m p n
+  name-bytes n t u b e f g = g ∙ rw (f, e)

@@ -1,7 +1,7 @@
 -- A signal in an automaton, and its name in two texts, m and p.
 use mathlib.Core.Bool.{Bool, cond}
 use mathlib.Core.List.{List, []}
-use Prim.Native.Nat.{ℕ, _-_}
+use Prim.Native.Nat.{ℕ}
 use lib.Dec.{eqb}
 use lib.ListN.{take, drop}
 use Rattle.theory.specs.declared.Automaton.{Automaton}
@@ -18,4 +18,4 @@ textOf m p text = cond (eqb text 2) p m
 
 -- The bytes of a name.
 abbrev pub nameAt : List ℕ → List ℕ → Name → List ℕ
-nameAt m p n = take (n .to - n .from) (drop (n .from) (textOf m p (n .text)))
+nameAt m p n = take (n .length) (drop (n .from) (textOf m p (n .text)))

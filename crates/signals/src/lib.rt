@@ -3,12 +3,12 @@ ghost use mathlib.Core.Path.{_≡_};
 ghost use Rattle.signals.specs.Names.{isDeclared, textOf, nameAt};
 use theory::Automaton;
 
-// A name as a part of one of two texts: 2 is the second, any other number the first. Of a text that is read a byte's place fits into 16 bits, and
-// a reading hands all its names on with every line.
+// A name as a part of one of two texts: 2 is the second, any other number the first. It is held in 4 bytes, since a reading hands all its names
+// on with every line: of a text that is read a byte's place fits into 16 bits, and a name into 16 bytes.
 pub struct Name {
-    pub text: u32,
+    pub text: u8,
+    pub length: u8,
     pub from: u16,
-    pub to: u16,
 }
 
 // Whether the automaton has the signal.
@@ -29,9 +29,6 @@ pub fn text_of<'a>(m: &'a [u8], p: &'a [u8], text: u32) -> &'a [u8]
 pub fn bytes_of<'a>(m: &'a [u8], p: &'a [u8], name: Name) -> &'a [u8]
     ensures { λ r. ⌜ now r ≡ nameAt (now (m .entry)) (now (p .entry)) name ⌝ }
 {
-    scan::part(
-        text_of(m, p, name.text),
-        name.from as usize,
-        name.to as usize,
-    )
+    let from = scan::after(text_of(m, p, name.text as u32), name.from as usize);
+    scan::before(from, name.length as usize)
 }

@@ -13,7 +13,7 @@ use Rattle.text.specs.declared.Number.the-variants.{Value}
 use Rattle.text.specs.Fields.{all, digitByte, valueFrom, value, numberOk, number}
 use Rattle.text.specs.Writing.{digitsOf, decimal}
 
-value-append : (v : ℕ) (s : List ℕ) (x : ℕ) → valueFrom v (s ++ x ∷ []) ≡ valueFrom v s * 10 + (x - 48)
+pub value-append : (v : ℕ) (s : List ℕ) (x : ℕ) → valueFrom v (s ++ x ∷ []) ≡ valueFrom v s * 10 + (x - 48)
 unfolding valueFrom
 value-append v [] x = refl
 value-append v (y ∷ s) x = value-append (v * 10 + (y - 48)) s x

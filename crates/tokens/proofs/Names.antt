@@ -1,6 +1,6 @@
 -- Laws for the name rule, by what the code knows at the byte i of s, whose length is n.
 use mathlib.Core.Path.{_≡_, refl, sym, ap, _∙_}
-use mathlib.Core.Bool.{Bool, true, false, not, _&&_, _||_, and-false}
+use mathlib.Core.Bool.{Bool, true, false, not, _&&_, _||_, and-false, or-false}
 use mathlib.Core.List.{List}
 use Prim.Native.Nat.{ℕ, _+_, _≤_, _<_}
 use native.Mathlib.Numerals.{add-one}
@@ -8,7 +8,7 @@ use native.Mathlib.Omega.{arith}
 use lib.Dec.{eqb, leb}
 use lib.ListN.{length, drop, getD, drop-of-length-le}
 use lib.Seq.{drop-cons}
-use borrow.Author.Tests.{ne-eqb, le-leb, lt-leb, not-true, not-false}
+use borrow.Author.Tests.{ne-eqb, le-leb, lt-leb, leb-true, not-true, not-false}
 use Rattle.text.specs.Fields.{all, nameByte, nameOk}
 
 -- One more byte of those that all pass a test.
@@ -33,8 +33,8 @@ module _ (x : ℕ) where
   pub byte-upper : 65 ≤ x → x ≤ 90 → true ≡ nameByte x
   byte-upper h k = simp (meaning, le-leb 48 x (omega arith), lt-leb x 57 (omega arith), le-leb 65 x h, le-leb x 90 k)
 
-  pub byte-lower : 97 ≤ x → x ≤ 122 → true ≡ nameByte x
-  byte-lower h k =
+  pub byte-small : 97 ≤ x → leb x 122 ≡ nameByte x
+  byte-small h =
       simp (
         meaning,
         le-leb 48 x (omega arith),
@@ -42,7 +42,8 @@ module _ (x : ℕ) where
         le-leb 65 x (omega arith),
         lt-leb x 90 (omega arith),
         le-leb 97 x h,
-        le-leb x 122 k,
+        ne-eqb x 95 (omega arith),
+        or-false,
       )
 
   pub byte-underscore : x ≡ 95 → true ≡ nameByte x
@@ -78,20 +79,16 @@ module _ (x : ℕ) where
         ne-eqb x 95 n,
       )
 
-  pub byte-high : 122 < x → false ≡ nameByte x
-  byte-high h =
-      simp (
-        meaning,
-        le-leb 48 x (omega arith),
-        lt-leb x 57 (omega arith),
-        le-leb 65 x (omega arith),
-        lt-leb x 90 (omega arith),
-        le-leb 97 x (omega arith),
-        lt-leb x 122 h,
-        ne-eqb x 95 (omega arith),
-      )
-
 -- ---- a name
+
+pub name-short : (s : List ℕ) → nameOk s ≡ true → length s ≤ 16
+unfolding nameOk
+name-short s h = leb-true (length s) 16 (go (leb 1 (length s)) (leb (length s) 16) (all nameByte s) h)
+  where
+    go : (a b c : Bool) → (a && b && c) ≡ true → b ≡ true
+    go true true c q = refl
+    go true false c q = q
+    go false b c q = absurd (let o : _≡_ {A = ℕ} 0 1 = cc in omega arith)
 
 module _ (s : List ℕ) where
   pub name-none : length s ≡ 0 → false ≡ nameOk s

@@ -1,16 +1,28 @@
 // The name rule and the number rule of table text (document 01, "Table text").
 ghost use mathlib.Core.Path.{_≡_};
+ghost use Prim.Native.Nat.{_<_};
 ghost use Rattle.text.specs.Fields.{nameByte, nameOk, number as numberOf};
 use text::Number;
 
-// A letter, a digit or an underscore of ASCII.
-fn is_name_byte(x: u8) -> bool
+// A letter, a digit or an underscore of ASCII. Small letters, the most frequent, are told by themselves: the compiler tests all kinds of a `match`
+// together.
+pub fn is_name_byte(x: u8) -> bool
+    ensures { λ r. ⌜ r ≡ nameByte x ⌝ }
+{
+    if b'a' <= x {
+        return x <= b'z';
+    }
+    is_other_name_byte(x)
+}
+
+// The same of a byte before the small letters.
+fn is_other_name_byte(x: u8) -> bool
+    requires { ⌜ x < 97 ⌝ }
     ensures { λ r. ⌜ r ≡ nameByte x ⌝ }
 {
     match x {
         b'0'..=b'9' => true,
         b'A'..=b'Z' => true,
-        b'a'..=b'z' => true,
         b'_' => true,
         _ => false,
     }

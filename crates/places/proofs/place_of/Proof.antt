@@ -16,8 +16,12 @@ cast-from c = search needs
 bytes-of-requires : tie.Need-bytes-of-requires
 bytes-of-requires c κs = search needs
 
+cast-t13 : tie.Need-cast-t13
+cast-t13 c = search needs
+
 returns : tie.Need-returns
-returns c = place-held _ _ _ _ (search needs) _ _ refl _ (c .bytes-of .ensures)
+returns c = place-held _ _ _ _ (search needs) _ _ refl _ (c .before .bytes-of .ensures)
 
 pub place-of-spec : {M : Type 1} → statement M
-place-of-spec = tie.close (tie.spec mul-name array-copy-out-name cast-from bytes-of-requires returns)
+place-of-spec =
+    tie.close (tie.spec mul-name array-copy-out-name cast-from bytes-of-requires cast-t13 returns)

@@ -3,20 +3,35 @@ use borrow.Author.Needs.{needs}
 use Rattle.signals.proofs.bytes_of.Statement.{statement}
 use Rattle.signals.proofs.bytes_of.Tie as tie
 
+cast-text-of : tie.Need-cast-text-of
+cast-text-of c = search needs
+
 text-of-requires : tie.Need-text-of-requires
 text-of-requires c κs = search needs
 
-cast-part : tie.Need-cast-part
-cast-part c = search needs
+cast-after : tie.Need-cast-after
+cast-after c = search needs
 
-cast-part-2 : tie.Need-cast-part-2
-cast-part-2 c = search needs
+after-requires : tie.Need-after-requires
+after-requires c κs = search needs
 
-part-requires : tie.Need-part-requires
-part-requires c κs = search needs
+cast-before : tie.Need-cast-before
+cast-before c = search needs
+
+before-requires : tie.Need-before-requires
+before-requires c κs = search needs
 
 returns : tie.Need-returns
 returns c = search (name-bytes, needs)
 
 pub bytes-of-spec : {M : Type 1} → statement M
-bytes-of-spec = tie.close (tie.spec text-of-requires cast-part cast-part-2 part-requires returns)
+bytes-of-spec =
+    tie.close
+    (tie.spec
+    cast-text-of
+    text-of-requires
+    cast-after
+    after-requires
+    cast-before
+    before-requires
+    returns)

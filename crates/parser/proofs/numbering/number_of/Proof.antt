@@ -28,11 +28,8 @@ mul-candidate c = search needs
 array-copy-out-candidate : tie.Need-array-copy-out-candidate Inv-loop μ-loop
 array-copy-out-candidate c = search needs
 
-bytes-of-requires-2 : tie.Need-bytes-of-requires-2 Inv-loop μ-loop
-bytes-of-requires-2 c κs = search needs
-
-equal-requires : tie.Need-equal-requires Inv-loop μ-loop
-equal-requires c κs = search needs
+is-named-requires : tie.Need-is-named-requires Inv-loop μ-loop
+is-named-requires c κs = search needs
 
 returns : tie.Need-returns Inv-loop μ-loop
 returns c = search (index-found, needs)
@@ -59,8 +56,7 @@ number-of-spec =
     loop-holds
     mul-candidate
     array-copy-out-candidate
-    bytes-of-requires-2
-    equal-requires
+    is-named-requires
     returns
     add-i
     loop-less

@@ -1,0 +1,27 @@
+use Rattle.line.proofs.OnePass.{first-unended, first-line}
+use borrow.Author.Needs.{needs}
+use Rattle.line.proofs.parse_slowly.Statement.{statement}
+use Rattle.line.proofs.parse_slowly.Tie as tie
+
+find-requires : tie.Need-find-requires
+find-requires c κs = search needs
+
+returns : tie.Need-returns
+returns c = search (first-unended, needs)
+
+before-requires : tie.Need-before-requires
+before-requires c κs = search needs
+
+says-requires : tie.Need-says-requires
+says-requires c κs = search needs
+
+of-length-requires : tie.Need-of-length-requires
+of-length-requires c κs = search needs
+
+returns-2 : tie.Need-returns-2
+returns-2 c = search (first-line, needs)
+
+pub parse-slowly-spec : {M : Type 1} → statement M
+parse-slowly-spec =
+    tie.close
+    (tie.spec find-requires returns before-requires says-requires of-length-requires returns-2)
