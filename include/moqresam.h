@@ -11,8 +11,8 @@
  * What no call can see, and a caller has to keep: a pointer is to as many bytes as the length beside it says, or NULL with length 0; a buffer
  * that a call writes to does not overlap one that it reads; a follower is not NULL.
  *
- * Nothing is allocated and no state is kept, so calls may run at the same time on different buffers. Fit and refine want 1.2 MB of stack, also
- * where the pairs are few, and 0.6 MB where they are refused; follow wants less than 1 KB.
+ * Nothing is allocated and no state is kept, so calls may run at the same time on different buffers. Fit and refine want 1.2 MB of stack at
+ * most, and 0.6 MB where they are refused; follow wants less than 1 KB.
  */
 #ifndef MOQRESAM_H
 #define MOQRESAM_H

@@ -8,9 +8,9 @@ use lib.ListN.{length, take, drop}
 use Rattle.text.specs.Reading.{Signal, Outcome, finished, ended, Joint, both, neither, readAlone, readBoth}
 use Rattle.text.specs.Lookup.{ample, declares, lookup, lookupNumber, lookupAlone, lookupNumberAlone}
 use Rattle.text.proofs.Parts.{Stands, lookup-part-alone, lookup-part-first, lookup-part-second}
-use Rattle.places.specs.declared.Found.{Found}
+use Rattle.reader.specs.declared.Found.{Found}
 use Rattle.signals.specs.Names.{textOf}
-use Rattle.places.specs.Places.{found, foundAlone}
+use Rattle.lookup.specs.Places.{found, foundAlone}
 
 -- ---- two texts
 

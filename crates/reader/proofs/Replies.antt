@@ -5,10 +5,10 @@ use mathlib.Core.List.{List}
 use Prim.Native.Nat.{ℕ}
 use lib.ListN.{length, replicate}
 use Rattle.text.specs.Reading.{readAlone, readBoth, cellsAlone, cellsFirst, cellsSecond}
-use Rattle.parser.specs.declared.Told.{Told}
-use Rattle.parser.specs.declared.Both.{Both}
-use Rattle.parser.specs.State.{ReadsOne, ReadsBoth}
-use Rattle.parser.proofs.Meaning.{alone-ended, alone-finished, both-ended, both-finished}
+use Rattle.reader.specs.declared.state.Told.{Told}
+use Rattle.reader.specs.declared.state.Both.{Both}
+use Rattle.reader.specs.State.{ReadsOne, ReadsBoth}
+use Rattle.reader.proofs.Meaning.{alone-ended, alone-finished, both-ended, both-finished}
 use Rattle.reader.specs.declared.Alone.the-variants as alone
 use Rattle.reader.specs.declared.Together.the-variants as together
 use Rattle.reader.specs.Replies.{aloneReply, togetherReply}

@@ -1,1 +1,3 @@
+pub mod State
 pub mod Replies
+pub mod Places

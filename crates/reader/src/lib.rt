@@ -1,10 +1,21 @@
-// Reads table text into lent cells (document 01, "Table text"): a module's and a plan's text together, or a text alone.
+// Reads table text (document 01, "Table text"), line by line to its end: a module's and a plan's text together, or a text alone; into lent cells, or
+// for the place of a signal's name.
 ghost use mathlib.Core.Path.{_≡_};
 ghost use lib.ListN.{length};
 ghost use Rattle.text.specs.Reading.{readAlone, readBoth, cellsAlone, cellsFirst, cellsSecond};
 ghost use Rattle.reader.specs.Replies.{aloneReply, togetherReply};
 use text::TextRefusal;
 use theory::Automaton;
+
+mod cells;
+mod entries;
+mod numbering;
+mod places;
+mod state;
+mod texts;
+
+pub use places::find_alone_in;
+pub use places::find_in;
 
 // The numbers of the automaton of a text read alone; its cells are in the lent buffer.
 pub enum Alone {
@@ -21,14 +32,23 @@ pub enum Together {
     Refused(TextRefusal),
 }
 
-// Reads a text alone.
+// Where the name of a signal was first declared: in which text (1, 2), from which byte on, how many bytes. All 0 where the lookup is refused,
+// and then `number` says why; else that is 0.
+pub struct Found {
+    pub number: u32,
+    pub text: u32,
+    pub from: usize,
+    pub length: usize,
+}
+
+// Reads a text alone. A refused reading leaves the lent cells without steps.
 pub fn read_alone(m: &[u8], cells: &mut [u16]) -> Alone
     ensures { λ r. ⌜ r ≡ aloneReply (readAlone (length (now (cells .entry))) (now (m .entry))) ⌝ }
     ensures { λ r. ⌜ now (cells .exit) ≡ cellsAlone (length (now (cells .entry))) (readAlone (length (now (cells .entry))) (now (m .entry))) ⌝ }
 {
-    let told = parser::read_one(m, cells);
+    let told = texts::read_one(m, cells);
     if told.refused {
-        parser::clear(cells);
+        cells::clear(cells);
         let refusal = told.refusal;
         return Alone::Refused(refusal);
     }
@@ -43,10 +63,10 @@ pub fn read_together<'a>(m: &'a [u8], p: &'a [u8], cm: &mut [u16], cp: &mut [u16
     ensures { λ r. ⌜ now (cm .exit) ≡ cellsFirst (length (now (cm .entry))) (readBoth (length (now (cm .entry))) (now (m .entry)) (length (now (cp .entry))) (now (p .entry))) ⌝ }
     ensures { λ r. ⌜ now (cp .exit) ≡ cellsSecond (length (now (cp .entry))) (readBoth (length (now (cm .entry))) (now (m .entry)) (length (now (cp .entry))) (now (p .entry))) ⌝ }
 {
-    let told = parser::read_both(m, p, cm, cp);
+    let told = texts::read_both(m, p, cm, cp);
     if told.refused {
-        parser::clear(cm);
-        parser::clear(cp);
+        cells::clear(cm);
+        cells::clear(cp);
         let refusal = told.refusal;
         return Together::Refused(refusal);
     }

@@ -1,0 +1,168 @@
+-- What a line does to a reading.
+use mathlib.Core.Path.{_≡_, refl, sym, subst, _∙_}
+use mathlib.Core.Bool.{Bool, true, false, not, _||_, cond, or-true}
+use mathlib.Core.List.{List, []}
+use Prim.Native.Nat.{ℕ, _+_, _*_, _^_, _<_, _≤_}
+use native.Mathlib.Omega.{arith}
+use lib.Dec.{T, eqb, ltb, leb}
+use mir.Syntax.{w64}
+use mir.Val.{Fits}
+use lib.ListN.{length, getD, set, length-set}
+use lib.Bits.{bitOr}
+use borrow.Author.Tests.{eq-eqb, ne-eqb, lt-ltb, le-ltb, le-leb, lt-leb, leb-false, not-true, not-false}
+use Rattle.theory.specs.declared.Automaton.{Automaton}
+use Rattle.theory.specs.Table.{table}
+use Rattle.theory.proofs.Filled.{any-default}
+use Rattle.theory.proofs.Table.{table-narrow}
+use Rattle.text.specs.declared.Place.the-variants.{Declarations, Steps as StepsPlace}
+use Rattle.text.specs.declared.Role.{Role}
+use Rattle.text.specs.declared.Role.the-variants.{Input, Output}
+use Rattle.text.specs.Reading.{indexOf, withRole, started, declaring, stepping}
+use Rattle.text.proofs.Names.{index-le}
+use Rattle.text.proofs.Accepted.{with-states}
+use Rattle.signals.specs.declared.Name.{Name}
+use Rattle.reader.specs.declared.state.Signals.{Signals}
+use Rattle.reader.specs.declared.state.State.{State}
+use Rattle.reader.specs.declared.entries.Advanced.{Advanced}
+use Rattle.signals.specs.Names.{nameAt, isDeclared}
+use Rattle.reader.specs.State.{signalsOf, Fit, Addable, Added, lacking, halted, gone, Sound, Putable, Starts, Declares, Steps}
+use Rattle.reader.proofs.Names.{signals-length}
+
+false-true : true ≡ false → ⊥
+false-true e = subst T e tt
+
+-- What a step lacks, test by test.
+module _ (h : Automaton) (from a to : ℕ) (r : Bool) (told : r ≡ isDeclared h a) where
+  pub lacks-signal : not r ≡ true → true ≡ lacking h from a to
+  lacks-signal e = rw (← told, e)
+
+  pub lacks-from : not r ≡ false → h .states ≤ from → true ≡ lacking h from a to
+  lacks-from e l = rw (← told, e, le-leb (h .states) from l)
+
+  pub lacks-to : not r ≡ false → from < h .states → leb (h .states) to ≡ lacking h from a to
+  lacks-to e l = rw (← told, e, lt-leb (h .states) from l)
+
+-- A step is put into a blank cell only.
+module _ (cells : List ℕ) (at to : ℕ) (ok : Putable cells at to) where
+  pub put-not : (getD cells at 0 ≡ 65535 → ⊥) → false ≡ eqb (getD cells at 65535) 65535
+  put-not h = sym (ne-eqb (getD cells at 65535) 65535 (λ e. h (any-default cells at 0 65535 (ok .there) ∙ e)))
+
+  pub put-done : getD cells at 0 ≡ 65535 → true ≡ eqb (getD cells at 65535) 65535
+  put-done h = sym (eq-eqb (getD cells at 65535) 65535 (any-default cells at 65535 0 (ok .there) ∙ h))
+
+-- The list of the role has the signal too.
+module _ (h : Automaton) (role : Role) (a : ℕ) (low : a < 32) where
+  pub role-input : role ≡ Input → (l : ℕ) → l ≡ cond (ltb a 32) (bitOr (h .inputs) (2 ^ a)) (h .inputs)
+      → _≡_ {A = Automaton} (record { states = h .states; initial = h .initial; inputs = l; outputs = h .outputs }) (withRole role a h)
+  role-input e l f = rw (e, f, lt-ltb a 32 low)
+
+  pub role-output : role ≡ Output → (l : ℕ) → l ≡ cond (ltb a 32) (bitOr (h .outputs) (2 ^ a)) (h .outputs)
+      → _≡_ {A = Automaton} (record { states = h .states; initial = h .initial; inputs = h .inputs; outputs = l }) (withRole role a h)
+  role-output e l f = rw (e, f, lt-ltb a 32 low)
+
+-- ---- the `table` line
+
+module _ (st : State) (states initial room : ℕ) (ok : Sound st room) where
+  pub start-empty : states ≡ 0 → (r : Advanced) → r ≡ halted 1 st → Starts st states initial room r
+  unfolding started
+  start-empty e r f = rw f (record { sound = ok; means = λ m p cells l. simp (eq-eqb states 0 e) })
+
+  pub start-large : 4096 < states → (r : Advanced) → r ≡ halted 1 st → Starts st states initial room r
+  unfolding started
+  start-large h r f = rw f (record { sound = ok; means = λ m p cells l. simp (lt-ltb 4096 states h, or-true) })
+
+  module _ (some : states ≡ 0 → ⊥) (few : states ≤ 4096) where
+    pub start-outside : states ≤ initial → (r : Advanced) → r ≡ halted 2 st → Starts st states initial room r
+    unfolding started
+    start-outside h r f =
+        rw f (record { sound = ok; means = λ m p cells l. simp (ne-eqb states 0 some, le-ltb 4096 states few, le-leb states initial h) })
+
+    module _ (inside : initial < states) where
+      pub start-crowded : room < states * 32 → (r : Advanced) → r ≡ halted 10 st → Starts st states initial room r
+      unfolding started
+      start-crowded h r f = rw f (record {
+        sound = ok;
+        means = λ m p cells l. simp (ne-eqb states 0 some, le-ltb 4096 states few, lt-leb states initial inside, l, lt-ltb room (states * 32) h);
+      })
+
+      pub start-good : states * 32 ≤ room → (r : Advanced)
+          → r ≡ gone (record { place = Declarations; header = record { states = states; initial = initial; inputs = 0; outputs = 0 }; signals = st .signals })
+          → Starts st states initial room r
+      unfolding started
+      start-good h r f = rw f (record {
+        sound = record { fit = ok .fit; small = few; wide = h };
+        means = λ m p cells l. simp (ne-eqb states 0 some, le-ltb 4096 states few, lt-leb states initial inside, l, le-ltb room (states * 32) h);
+      })
+
+-- ---- a declaration
+
+module _ (m p : List ℕ) (st : State) (name : Name) (number : ℕ) (fit : Fit (st .signals))
+    (found : number ≡ indexOf (nameAt m p name) (signalsOf m p (st .signals))) where
+  pub number-le : number ≤ st .signals .count
+  number-le = omega (arith, index-le (nameAt m p name) (signalsOf m p (st .signals)), signals-length m p (st .signals) fit)
+
+  pub addable : number < 32 → Addable (st .signals) number
+  addable h = record { fit = fit; at-most = number-le; below = h }
+
+  module _ (role : Role) (room : ℕ) (ok : Sound st room) (r : Bool) (told : r ≡ isDeclared (st .header) number) where
+    pub declare-twice : r ≡ true → (x : Advanced) → x ≡ halted 18 st → Declares m p st role name room x
+    unfolding declaring
+    declare-twice e x f = rw f (record { sound = ok; means = λ cells. rw (← found, ← told, e) })
+
+    module _ (new : r ≡ false) where
+      pub declare-many : 32 ≤ number → (x : Advanced) → x ≡ halted 21 st → Declares m p st role name room x
+      unfolding declaring
+      declare-many h x f = rw f (record { sound = ok; means = λ cells. rw (← found, ← told, new, le-leb 32 number h) })
+
+      pub declare-good : number < 32 → (h : Automaton) (s : Signals) → h ≡ withRole role number (st .header) → Added (st .signals) name number s
+          → (x : Advanced) → x ≡ gone (record { place = Declarations; header = h; signals = s }) → Declares m p st role name room x
+      unfolding declaring
+      declare-good k h s e a x f = rw f (record {
+        sound = record { fit = a .fit; small = rw (e, with-states role number (st .header)) (ok .small); wide = rw (e, with-states role number (st .header)) (ok .wide) };
+        means = λ cells. rw (← found, ← told, new, lt-leb 32 number k, e, a .means m p);
+      })
+
+  -- ---- a step
+
+  module _ (cells : List ℕ) (from to : ℕ) (ok : Sound st (length cells)) (r : Bool) (told : r ≡ lacking (st .header) from number to) where
+    pub step-lacking : r ≡ true → (x : Advanced) → x ≡ halted 19 st → Steps m p st cells from name to x cells
+    unfolding stepping
+    step-lacking e x f = rw f (record { sound = ok; means = rw (← found, ← told, e) })
+
+    module _ (here : r ≡ false) where
+      there : (number < 32) × (from < st .header .states) × (to < st .header .states)
+      there = none-lacking (isDeclared (st .header) number) (leb (st .header .states) from) (leb (st .header .states) to) refl refl refl (sym told ∙ here)
+        where
+          none-lacking : (b c d : Bool) → isDeclared (st .header) number ≡ b → leb (st .header .states) from ≡ c → leb (st .header .states) to ≡ d
+              → (not b || c || d) ≡ false → (number < 32) × (from < st .header .states) × (to < st .header .states)
+          none-lacking true false false e f g h = (table-narrow (table (st .header) []) number (subst T (sym e) tt), leb-false _ _ f, leb-false _ _ g)
+          none-lacking true false true e f g h = absurd (false-true h)
+          none-lacking true true d e f g h = absurd (false-true h)
+          none-lacking false c d e f g h = absurd (false-true h)
+
+      pub step-putable : Putable cells (from * 32 + number) to
+      step-putable = let (l, f, t) = there in record { there = omega (arith, ok .wide); small = omega (arith, ok .small) }
+
+      pub step-place-fits : Fits w64 (from * 32 + number)
+      step-place-fits = let (l, f, t) = there in record { fits = omega (arith, ok .small) }
+
+      pub step-state-fits : Fits w64 (from * 32)
+      step-state-fits = let (l, f, t) = there in record { fits = omega (arith, ok .small) }
+
+      module _ (b : Bool) (cells′ : List ℕ) (blank : b ≡ eqb (getD cells (from * 32 + number) 65535) 65535)
+          (filled : cells′ ≡ cond b (set cells (from * 32 + number) to) cells) where
+        pub step-twice : not b ≡ true → (x : Advanced) → x ≡ halted 20 st → Steps m p st cells from name to x cells′
+        unfolding stepping
+        step-twice h x f =
+            let c : cells′ ≡ cells = filled ∙ rw (not-true b h) in
+            rw f (record { sound = record { fit = fit; small = ok .small; wide = rw c (ok .wide) }; means = rw (← found, ← told, here, ← blank, h) })
+
+        pub step-good : not b ≡ false → (x : Advanced) → x ≡ gone (record { place = StepsPlace; header = st .header; signals = st .signals })
+            → Steps m p st cells from name to x cells′
+        unfolding stepping
+        step-good h x f =
+            let c : cells′ ≡ set cells (from * 32 + number) to = filled ∙ rw (not-false b h) in
+            rw f (record {
+              sound = record { fit = fit; small = ok .small; wide = rw c (omega (arith, ok .wide, length-set cells (from * 32 + number) to)) };
+              means = rw (← found, ← told, here, ← blank, h, c);
+            })

@@ -1,0 +1,94 @@
+-- Where a signal's name was first declared: the replies.
+use mathlib.Core.Path.{_≡_, sym, subst, ap, _∙_}
+use mathlib.Core.Logic.{inl, inr}
+use mathlib.Core.Bool.{Bool, true, false, not, _||_}
+use mathlib.Core.List.{List}
+use Prim.Native.Nat.{ℕ, _+_}
+use native.Mathlib.Omega.{arith}
+use lib.Dec.{T}
+use lib.ListN.{length, getD, length-append}
+use lib.Bits.{bitOr}
+use borrow.Author.Tests.{not-true, not-false}
+use Rattle.theory.specs.declared.Automaton.{Automaton}
+use Rattle.theory.specs.Table.{member}
+use Rattle.theory.proofs.Sets.{member-or}
+use Rattle.theory.proofs.Filled.{any-default}
+use Rattle.theory.proofs.Tests.{or-cases}
+use Rattle.text.specs.Reading.{readAlone, readBoth}
+use Rattle.text.specs.Lookup.{nobody}
+use Rattle.text.proofs.Accepted.{accepted-alone, accepted-both}
+use Rattle.signals.specs.declared.Name.{Name}
+use Rattle.reader.specs.declared.state.Signals.{Signals}
+use Rattle.reader.specs.declared.state.Told.{Told}
+use Rattle.reader.specs.declared.state.Both.{Both}
+use Rattle.signals.specs.Names.{nameAt, isDeclared}
+use Rattle.reader.specs.State.{signalAt, signalsOf, ReadsOne, ReadsBoth}
+use Rattle.reader.proofs.Names.{signals-length, signal-at}
+use Rattle.reader.proofs.Meaning.{alone-ended, alone-finished, both-ended, both-finished}
+use Rattle.reader.specs.declared.Found.{Found}
+use Rattle.reader.specs.Places.{placed, foundIn, foundAloneIn, Held}
+
+-- ---- the place of a name
+
+pub place-held : (m p : List ℕ) (s : Signals) (a : ℕ) → Held s a → (d n : Name) → n ≡ getD (s .names) a d → (b : List ℕ) → b ≡ nameAt m p n
+    → _≡_ {A = Found} (record { number = 0; text = n .text; from = n .from; length = length b }) (placed (getD (signalsOf m p s) a nobody) 0)
+place-held m p s a held d n here b f =
+    let signal : getD (signalsOf m p s) a nobody ≡ signalAt m p n =
+    any-default (signalsOf m p s) a nobody (signalAt m p d) (omega (arith, held .below, signals-length m p s (held .fit)))
+    ∙ signal-at m p s (held .fit) d a (held .below) ∙ ap (signalAt m p) (sym here) in
+    rw (signal, f)
+
+-- ---- two texts
+
+pub declared-of : (a b : Automaton) (s d e : ℕ) (r : Bool) → d ≡ bitOr (a .inputs) (a .outputs) → e ≡ bitOr (b .inputs) (b .outputs)
+    → r ≡ member (bitOr d e) s → r ≡ (isDeclared a s || isDeclared b s)
+declared-of a b s d e r f g h =
+    h ∙ member-or d e s ∙ rw (f, g, member-or (a .inputs) (a .outputs) s, member-or (b .inputs) (b .outputs) s)
+
+module _ (m p : List ℕ) (room room′ : ℕ) (t : Both) (cells cells′ : List ℕ) (read : ReadsBoth m p room room′ t cells cells′) (a : ℕ) (r : Found) where
+  pub found-refused : t .refused ≡ true → r ≡ placed nobody (t .refusal .number) → r ≡ foundIn (readBoth room m room′ p) a
+  found-refused e f = f ∙ ap (λ j. foundIn j a) (both-ended m p room room′ t cells cells′ read e)
+
+  module _ (e : t .refused ≡ false) (d : Bool) (told : d ≡ (isDeclared (t .first .header) a || isDeclared (t .second .header) a)) where
+    pub found-undeclared : not d ≡ true → r ≡ placed nobody 12 → r ≡ foundIn (readBoth room m room′ p) a
+    found-undeclared g f = subst (λ j. r ≡ foundIn j a) (both-finished m p room room′ t cells cells′ read e) (f ∙ rw (← told, not-true d g))
+
+    module _ (g : not d ≡ false) where
+      pub held-both : Held (t .second .signals) a
+      held-both =
+          let ok = accepted-both room m room′ p _ _ (sym (both-finished m p room room′ t cells cells′ read e)) in
+          let many : length (signalsOf m p (t .second .signals)) ≡ t .second .signals .count = signals-length m p (t .second .signals) (read .fit) in
+          let more : length (signalsOf m p (t .second .signals)) ≡ length (signalsOf m p (t .first .signals)) + length (ok .second .more) =
+          ap length (ok .second .extends) ∙ length-append (signalsOf m p (t .first .signals)) (ok .second .more) in
+          record {
+            fit = read .fit;
+            below = elim (or-cases (isDeclared (t .first .header) a) (isDeclared (t .second .header) a) (subst T (sym (not-false d g) ∙ told) tt)) [
+              | inl x ↦ omega (arith, ok .first .numbered a x)
+              | inr x ↦ omega (arith, ok .second .numbered a x)
+            ];
+          }
+
+      pub found-there : r ≡ placed (getD (signalsOf m p (t .second .signals)) a nobody) 0 → r ≡ foundIn (readBoth room m room′ p) a
+      found-there f = subst (λ j. r ≡ foundIn j a) (both-finished m p room room′ t cells cells′ read e) (f ∙ rw (← told, not-false d g))
+
+-- ---- a text alone
+
+module _ (m : List ℕ) (room : ℕ) (t : Told) (cells : List ℕ) (read : ReadsOne m room t cells) (a : ℕ) (r : Found) where
+  pub alone-found-refused : t .refused ≡ true → r ≡ placed nobody (t .refusal .number) → r ≡ foundAloneIn (readAlone room m) a
+  alone-found-refused e f = f ∙ ap (λ o. foundAloneIn o a) (alone-ended m room t cells read e)
+
+  module _ (e : t .refused ≡ false) (d : Bool) (told : d ≡ isDeclared (t .state .header) a) where
+    pub alone-undeclared : not d ≡ true → r ≡ placed nobody 12 → r ≡ foundAloneIn (readAlone room m) a
+    alone-undeclared g f = subst (λ o. r ≡ foundAloneIn o a) (alone-finished m room t cells read e) (f ∙ rw (← told, not-true d g))
+
+    module _ (g : not d ≡ false) where
+      pub held-alone : Held (t .state .signals) a
+      held-alone =
+          let ok = accepted-alone room m _ (sym (alone-finished m room t cells read e)) in
+          record {
+            fit = read .fit;
+            below = omega (arith, ok .numbered a (subst T (sym (not-false d g) ∙ told) tt), signals-length m m (t .state .signals) (read .fit));
+          }
+
+      pub alone-there : r ≡ placed (getD (signalsOf m m (t .state .signals)) a nobody) 0 → r ≡ foundAloneIn (readAlone room m) a
+      alone-there f = subst (λ o. r ≡ foundAloneIn o a) (alone-finished m room t cells read e) (f ∙ rw (← told, not-false d g))

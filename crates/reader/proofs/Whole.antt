@@ -1,0 +1,138 @@
+-- What comes of a text, and of two.
+use mathlib.Core.Path.{_≡_, refl, sym, ap, _∙_}
+use mathlib.Core.Bool.{true, false}
+use mathlib.Core.List.{List, [], _∷_}
+use Prim.Native.Nat.{ℕ, _+_, _-_, _<_, _≤_}
+use native.Mathlib.Omega.{arith}
+use native.Mathlib.Decide.{decLt}
+use lib.ListN.{length, take, drop, length-drop}
+use borrow.Author.Tests.{lt-ltb, le-ltb}
+use Rattle.text.specs.declared.Place.{Place}
+use Rattle.text.specs.Fields.{upto, split}
+use Rattle.text.specs.Lines.{parse}
+use Rattle.text.specs.Reading.{next, stop, Outcome, refuseAt, onward, entered, isNil, fresh, readLines, readFrom}
+use Rattle.line.specs.declared.Record.{Record}
+use Rattle.line.specs.declared.Line.{Line}
+use Rattle.line.specs.declared.Line.the-variants.{Taken}
+use Rattle.line.specs.declared.Line.the-variants.{Refused as NoLine}
+use Rattle.line.specs.Located.{firstLine}
+use Rattle.line.proofs.OnePass.{LineTaken, LineRefused, line-taken, line-refused}
+use Rattle.reader.specs.declared.state.Signals.{Signals}
+use Rattle.reader.specs.declared.state.State.{State}
+use Rattle.reader.specs.declared.entries.Advanced.{Advanced}
+use Rattle.reader.specs.declared.state.Told.{Told}
+use Rattle.signals.specs.Names.{textOf}
+use Rattle.reader.specs.State.{signalsOf, reading, result, Fit, freshState, Sound, InText, Enters, Blank, Says, numberIn, ReadsLines, Reads}
+use Rattle.reader.proofs.Lines.{lines-done, lines-unended, lines-onward}
+
+abbrev refusing : ℕ → ℕ → ℕ → State → Told
+refusing n text line st = record { refused = true; refusal = record { number = n; text = text; line = line }; state = st }
+
+-- Before the first line.
+pub fresh-sound : (s : Signals) (st : State) (cells : List ℕ) → st ≡ freshState s → Blank s cells → Sound st (length cells)
+fresh-sound s st cells e b = rw e (record { fit = b .fit; small = omega arith; wide = omega arith })
+
+pub short-text : (t bytes : List ℕ) → t ≡ bytes → (65536 < length t → ⊥) → length bytes ≤ 65536
+short-text t bytes e h = let short : length t ≤ 65536 = omega (arith, h) in rw e at short
+
+-- ---- the line from the byte `at` on, which was taken
+
+module _ (bytes : List ℕ) (at : ℕ) (u : List ℕ) (rest : u ≡ drop at bytes) (place : Place) (l : Line) (read : l ≡ firstLine place u)
+    (fields : Record) (e : ℕ) (taken : l ≡ Taken fields e) where
+  taken-line : LineTaken place (drop at bytes) fields e
+  taken-line = rw rest at (line-taken place u l read fields e taken)
+
+  pub line-ends : at + e < length bytes
+  line-ends = omega (arith, taken-line .within, length-drop at bytes)
+
+  module _ (m p : List ℕ) (text : ℕ) (same : bytes ≡ textOf m p text) (end : ℕ) (ends : end ≡ at + e) where
+    pub line-says : length (textOf m p text) ≤ 65536 → Says m p text at end place fields
+    line-says short = record {
+      inside = record { short = short; from-to = omega arith; below = rw same at (let b : end < length bytes = omega (arith, line-ends) in b) };
+      told = rw (← same, let z : end - at ≡ e = omega arith in z) (taken-line .told);
+    }
+
+-- ---- lines, one after the other: st₀ and cells₀ are the state and the cells before the first
+
+module _ (m p : List ℕ) (text : ℕ) (s : Signals) (st₀ : State) (begun : st₀ ≡ freshState s) (cells₀ : List ℕ) (clear : Blank s cells₀) where
+  abbrev whole : List ℕ → Outcome
+  whole bytes = readLines text 1 0 (reading m p st₀ cells₀) (split 10 bytes)
+
+  module _ (bytes : List ℕ) (same : bytes ≡ textOf m p text) (st : State) (cells : List ℕ) (k at : ℕ) (fit : Fit (st .signals))
+      (inv : readLines text k at (reading m p st cells) (split 10 (drop at bytes)) ≡ whole bytes) where
+    abbrev room : ℕ
+    room = length cells₀
+
+    so : (o : Outcome) → o ≡ readLines text k at (reading m p st cells) (split 10 (drop at bytes)) → o ≡ readLines text 1 0 (fresh (signalsOf m p s) room) (split 10 (textOf m p text))
+    so o e =
+        let start : reading m p st₀ cells₀ ≡ fresh (signalsOf m p s) room = rw (begun, ← clear .blank) in
+        e ∙ inv ∙ ap (λ R. readLines text 1 0 R (split 10 bytes)) start ∙ rw same
+
+    pub told-done : length bytes ≤ at
+        → ReadsLines m p text s room (record { refused = false; refusal = record { number = 0; text = 0; line = 0 }; state = st }) cells
+    told-done h = record { fit = fit; means = so _ (sym (lines-done text k (reading m p st cells) bytes at h)) }
+
+    module _ (h : at < length bytes) (u : List ℕ) (rest : u ≡ drop at bytes) (l : Line) (read : l ≡ firstLine (st .place) u) where
+      pub told-unread : (i : ℕ) → l ≡ NoLine i → (n : ℕ) → n ≡ numberIn l → (r : Told) → r ≡ refusing n text k st → ReadsLines m p text s room r cells
+      unfolding entered
+      told-unread i e n f r g =
+          let d : LineRefused (st .place) (drop at bytes) i = rw rest at (line-refused (st .place) u l read i e) in
+          let z : n ≡ i = f ∙ ap numberIn e in
+          let x : refuseAt i text k ≡ readLines text k at (reading m p st cells) (split 10 (drop at bytes)) =
+          elim (decLt (upto 10 (drop at bytes)) (length (drop at bytes))) [
+            | yes w ↦ sym (lines-onward text k (reading m p st cells) bytes at _ refl (omega (arith, length-drop at bytes)) ∙ rw (d .told w))
+            | no w ↦ sym (lines-unended text k (reading m p st cells) bytes at _ refl h (omega (arith, length-drop at bytes)) ∙ rw (d .unended (omega arith)))
+          ] in
+          rw (g, z) (record { fit = fit; means = so _ x })
+
+      module _ (fields : Record) (e : ℕ) (taken : l ≡ Taken fields e) where
+        line : LineTaken (st .place) (drop at bytes) fields e
+        line = taken-line bytes at u rest (st .place) l read fields e taken
+
+        ends-within : at + e < length bytes
+        ends-within = line-ends bytes at u rest (st .place) l read fields e taken
+
+        module _ (end : ℕ) (ends : end ≡ at + e) (q : Advanced) (cells′ : List ℕ) (d : Enters m p text at end st cells q cells′) where
+          step : result m p q cells′ ≡ entered text at (reading m p st cells) (parse (st .place) (take e (drop at bytes)))
+          step = d .means ∙ rw (same, let z : end - at ≡ e = omega arith in z)
+
+          pub told-refused : q .refused ≡ true → (r : Told) → r ≡ refusing (q .number) text k st → ReadsLines m p text s room r cells′
+          told-refused o r f =
+              let x : stop (q .number) ≡ entered text at (reading m p st cells) (parse (st .place) (take e (drop at bytes))) = simp o at step in
+              rw f (record {
+                fit = fit;
+                means = so _ (ap (λ y. onward text k y (λ st. readLines text (k + 1) (at + e + 1) st (split 10 (drop (at + e + 1) bytes)))) x
+                    ∙ sym (lines-onward text k (reading m p st cells) bytes at e (line .line) ends-within));
+              })
+
+          pub told-next : q .refused ≡ false
+              → readLines text (k + 1) (end + 1) (reading m p (q .state) cells′) (split 10 (drop (end + 1) bytes)) ≡ whole bytes
+          told-next o =
+              let x : next (reading m p (q .state) cells′) ≡ entered text at (reading m p st cells) (parse (st .place) (take e (drop at bytes))) = simp o at step in
+              rw ends (ap (λ y. onward text k y (λ st. readLines text (k + 1) (at + e + 1) st (split 10 (drop (at + e + 1) bytes)))) x
+              ∙ sym (lines-onward text k (reading m p st cells) bytes at e (line .line) ends-within) ∙ inv)
+
+-- ---- a text: 13, its lines, 22
+
+module _ (m p : List ℕ) (text : ℕ) (s : Signals) (room : ℕ) (fit : Fit s) (bytes : List ℕ) (same : bytes ≡ textOf m p text) (cells : List ℕ) where
+  pub reads-long : 65536 < length bytes → (st : State) → st ≡ freshState s → (r : Told) → r ≡ refusing 13 text 0 st → Reads m p text s room r cells
+  unfolding readFrom
+  reads-long h st e r f = rw (f, e) (record { fit = fit; means = rw (← same, lt-ltb 65536 (length bytes) h) })
+
+  module _ (short : length bytes ≤ 65536) where
+    pub reads-none : length bytes ≡ 0 → (st : State) → st ≡ freshState s → (r : Told) → r ≡ refusing 22 text 0 st → Reads m p text s room r cells
+    unfolding readFrom
+    reads-none h st e r f = rw (f, e) (record { fit = fit; means = rw (← same, le-ltb 65536 (length bytes) short, nil bytes h) })
+      where
+        nil : (b : List ℕ) → length b ≡ 0 → isNil b ≡ true
+        nil [] h = refl
+        nil (x ∷ b) h = absurd (omega arith)
+
+    pub reads-lines : (length bytes ≡ 0 → ⊥) → (room′ : ℕ) → room′ ≡ room → (r : Told) → ReadsLines m p text s room′ r cells → Reads m p text s room r cells
+    unfolding readFrom
+    reads-lines h room′ e r d =
+        record { fit = d .fit; means = d .means ∙ rw (← same, le-ltb 65536 (length bytes) short, some bytes h, e) }
+      where
+        some : (b : List ℕ) → (length b ≡ 0 → ⊥) → isNil b ≡ false
+        some [] h = absurd (h refl)
+        some (x ∷ b) h = refl

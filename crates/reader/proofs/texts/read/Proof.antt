@@ -1,0 +1,65 @@
+use native.Mathlib.Omega.{arith}
+use Rattle.reader.proofs.Whole.{short-text, reads-long, reads-none, reads-lines}
+use Rattle.reader.proofs.Joined.{cleared}
+use borrow.Author.Needs.{needs}
+use Rattle.reader.proofs.texts.read.Statement.{statement}
+use Rattle.reader.proofs.texts.read.Tie as tie
+
+clear-requires : tie.Need-clear-requires
+clear-requires c κs = search needs
+
+text-of-requires : tie.Need-text-of-requires
+text-of-requires c κs = search needs
+
+fresh-requires : tie.Need-fresh-requires
+fresh-requires c κs = search needs
+
+refuse-requires : tie.Need-refuse-requires
+refuse-requires c κs = search needs
+
+same-length : tie.Need-same-length
+same-length c = search needs
+
+returns : tie.Need-returns
+returns c =
+    reads-long _ _ _ _ _ (c .before .before .before .before .before .before .before .before .before .before .before .pre) _ (c .before .before .before .text-of .ensures) _ (omega arith) _ (c .before .fresh .ensures) _ (c .refuse .ensures)
+
+fresh-requires-2 : tie.Need-fresh-requires-2
+fresh-requires-2 c κs = search needs
+
+refuse-requires-2 : tie.Need-refuse-requires-2
+refuse-requires-2 c κs = search needs
+
+same-length-2 : tie.Need-same-length-2
+same-length-2 c = search needs
+
+returns-2 : tie.Need-returns-2
+returns-2 c =
+    reads-none _ _ _ _ _ (c .before .before .before .before .before .before .before .before .before .before .before .before .pre) _ (c .before .before .before .before .text-of .ensures) _ (omega arith) (omega arith) _ (c .before .fresh2 .ensures) _ (c .refuse2 .ensures)
+
+read-lines-requires : tie.Need-read-lines-requires
+read-lines-requires c κs = (search (cleared, needs), short-text _ _ (c .before .before .before .text-of .ensures) (omega arith))
+
+same-length-3 : tie.Need-same-length-3
+same-length-3 c = search needs
+
+returns-3 : tie.Need-returns-3
+returns-3 c = search (reads-lines, needs)
+
+pub read-spec : {M : Type 1} → statement M
+read-spec =
+    tie.close
+    (tie.spec
+    clear-requires
+    text-of-requires
+    fresh-requires
+    refuse-requires
+    same-length
+    returns
+    fresh-requires-2
+    refuse-requires-2
+    same-length-2
+    returns-2
+    read-lines-requires
+    same-length-3
+    returns-3)

@@ -1,0 +1,24 @@
+-- Where a signal's name stands, for any bytes.
+use mathlib.Core.List.{List}
+use Prim.Native.Nat.{ℕ, _<_}
+use lib.ListN.{length}
+use Rattle.text.specs.Reading.{Signal, Outcome, Joint}
+use Rattle.text.specs.Lookup.{signalOf, numberOf, signalAlone, numberAlone}
+use Rattle.reader.specs.declared.state.Signals.{Signals}
+use Rattle.reader.specs.State.{Fit}
+use Rattle.reader.specs.declared.Found.{Found}
+
+-- The place of a name, with the number of the refusal, or 0.
+abbrev pub placed : Signal → ℕ → Found
+placed s number = record { number = number; text = s .text; from = s .from; length = length (s .name) }
+
+abbrev pub foundIn : Joint → ℕ → Found
+foundIn j a = placed (signalOf j a) (numberOf j a)
+
+abbrev pub foundAloneIn : Outcome → ℕ → Found
+foundAloneIn o a = placed (signalAlone o a) (numberAlone o a)
+
+-- A signal that has a number.
+pub record Held (s : Signals) (a : ℕ) : Type 0 where
+  pub fit : Fit s
+  pub below : a < s .count

@@ -1,0 +1,78 @@
+// The signals that a reading has numbered so far, by the places of their names.
+ghost use mathlib.Core.Path.{_≡_};
+ghost use Rattle.text.specs.Fields.{same};
+ghost use Rattle.text.specs.Reading.{indexOf};
+ghost use Rattle.signals.specs.Names.{nameAt};
+ghost use Rattle.reader.specs.State.{signalsOf, Fit, Nobody, Addable, Added};
+use crate::state::Signals;
+use signals::Name;
+
+// No signal.
+pub fn none() -> Signals
+    ensures { λ r. ⌜ Nobody r ⌝ }
+{
+    Signals {
+        names: [Name {
+            text: 0,
+            length: 0,
+            from: 0,
+        }; 32],
+        count: 0,
+    }
+}
+
+// Whether a name is these bytes. Its length and its last byte tell most names apart, before the part is cut out.
+fn is_named<'a>(m: &'a [u8], p: &'a [u8], name: Name, wanted: &[u8]) -> bool
+    ensures { λ r. ⌜ r ≡ same (nameAt (now (m .entry)) (now (p .entry)) name) (now (wanted .entry)) ⌝ }
+{
+    let text = signals::text_of(m, p, name.text as u32);
+    let length = name.length as usize;
+    let end = name.from as usize + length;
+    if end <= text.len() {
+        if length != wanted.len() {
+            return false;
+        }
+        if 0 < length {
+            if text[end - 1] != wanted[length - 1] {
+                return false;
+            }
+        }
+    }
+    scan::equal(signals::bytes_of(m, p, name), wanted)
+}
+
+// The number of a name: that of the first signal that has it, or the next number.
+pub fn number_of<'a>(m: &'a [u8], p: &'a [u8], signals: Signals, name: Name) -> usize
+    requires { ⌜ Fit signals ⌝ }
+    ensures { λ r. ⌜ r ≡ indexOf (nameAt (now (m .entry)) (now (p .entry)) name) (signalsOf (now (m .entry)) (now (p .entry)) signals) ⌝ }
+{
+    let wanted = signals::bytes_of(m, p, name);
+    let names = signals.names;
+    let count = signals.count;
+    let mut i: usize = 0;
+    while i < count {
+        let candidate = names[i];
+        if is_named(m, p, candidate, wanted) {
+            return i;
+        }
+        i += 1;
+    }
+    i
+}
+
+// The signals with a name of this number, which is that of a signal or the next.
+pub fn add(signals: Signals, name: Name, number: usize) -> Signals
+    requires { ⌜ Addable signals number ⌝ }
+    ensures { λ r. ⌜ Added signals name number r ⌝ }
+{
+    let mut names = signals.names;
+    let count = signals.count;
+    if number < count {
+        return signals;
+    }
+    names[count] = name;
+    Signals {
+        names,
+        count: count + 1,
+    }
+}

@@ -1,0 +1,91 @@
+// Where a signal's name was first declared.
+ghost use mathlib.Core.Path.{_≡_};
+ghost use mathlib.Core.Bool.{_||_};
+ghost use lib.ListN.{length, getD};
+ghost use Rattle.text.specs.Reading.{readAlone, readBoth, cellsAlone, cellsFirst, cellsSecond};
+ghost use Rattle.text.specs.Lookup.{nobody};
+ghost use Rattle.signals.specs.Names.{isDeclared};
+ghost use Rattle.reader.specs.State.{signalsOf};
+ghost use Rattle.reader.specs.Places.{placed, foundIn, foundAloneIn, Held};
+use crate::Found;
+use crate::cells;
+use crate::state::Signals;
+use crate::texts;
+use theory::Automaton;
+
+// A refused lookup.
+fn nowhere(number: u32) -> Found
+    ensures { λ r. ⌜ r ≡ placed nobody number ⌝ }
+{
+    Found {
+        number,
+        text: 0,
+        from: 0,
+        length: 0,
+    }
+}
+
+// The place of the name of a signal that has a number.
+fn place_of<'a>(m: &'a [u8], p: &'a [u8], signals: Signals, signal: usize) -> Found
+    requires { ⌜ Held signals signal ⌝ }
+    ensures { λ r. ⌜ r ≡ placed (getD (signalsOf (now (m .entry)) (now (p .entry)) signals) signal nobody) 0 ⌝ }
+{
+    let names = signals.names;
+    let name = names[signal];
+    let from = name.from as usize;
+    let bytes = signals::bytes_of(m, p, name);
+    Found {
+        number: 0,
+        text: name.text as u32,
+        from,
+        length: bytes.len(),
+    }
+}
+
+// Whether one of two automata has the signal.
+fn is_either(a: Automaton, b: Automaton, signal: usize) -> bool
+    ensures { λ r. ⌜ r ≡ (isDeclared a signal || isDeclared b signal) ⌝ }
+{
+    sets::contains(automaton::declared(a) | automaton::declared(b), signal)
+}
+
+// In two texts, read together into lent cells.
+pub fn find_in<'a>(m: &'a [u8], p: &'a [u8], signal: usize, cm: &mut [u16], cp: &mut [u16]) -> Found
+    ensures { λ r. ⌜ r ≡ foundIn (readBoth (length (now (cm .entry))) (now (m .entry)) (length (now (cp .entry))) (now (p .entry))) signal ⌝ }
+    ensures { λ r. ⌜ now (cm .exit) ≡ cellsFirst (length (now (cm .entry))) (readBoth (length (now (cm .entry))) (now (m .entry)) (length (now (cp .entry))) (now (p .entry))) ⌝ }
+    ensures { λ r. ⌜ now (cp .exit) ≡ cellsSecond (length (now (cp .entry))) (readBoth (length (now (cm .entry))) (now (m .entry)) (length (now (cp .entry))) (now (p .entry))) ⌝ }
+{
+    let told = texts::read_both(m, p, cm, cp);
+    if told.refused {
+        cells::clear(cm);
+        cells::clear(cp);
+        let refusal = told.refusal;
+        return nowhere(refusal.number);
+    }
+    let first = told.first;
+    let second = told.second;
+    let signals = second.signals;
+    if !is_either(first.header, second.header, signal) {
+        return nowhere(12);
+    }
+    place_of(m, p, signals, signal)
+}
+
+// In a text that is read alone.
+pub fn find_alone_in(m: &[u8], signal: usize, cells: &mut [u16]) -> Found
+    ensures { λ r. ⌜ r ≡ foundAloneIn (readAlone (length (now (cells .entry))) (now (m .entry))) signal ⌝ }
+    ensures { λ r. ⌜ now (cells .exit) ≡ cellsAlone (length (now (cells .entry))) (readAlone (length (now (cells .entry))) (now (m .entry))) ⌝ }
+{
+    let told = texts::read_one(m, cells);
+    if told.refused {
+        cells::clear(cells);
+        let refusal = told.refusal;
+        return nowhere(refusal.number);
+    }
+    let state = told.state;
+    let signals = state.signals;
+    if !signals::is_declared(state.header, signal) {
+        return nowhere(12);
+    }
+    place_of(m, m, signals, signal)
+}

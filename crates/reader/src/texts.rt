@@ -1,0 +1,148 @@
+// The reading of a text, and of two.
+ghost use mathlib.Core.Path.{_≡_};
+ghost use mathlib.Core.Bool.{true};
+ghost use Prim.Native.Nat.{_≤_};
+ghost use lib.ListN.{length};
+ghost use Rattle.signals.specs.Names.{textOf};
+ghost use Rattle.reader.specs.State.{Fit, freshState, Blank, numberIn, ReadsLines, Reads, ReadsOne, joined, ReadsBoth};
+use crate::cells;
+use crate::entries;
+use crate::numbering;
+use crate::state::Both;
+use crate::state::Signals;
+use crate::state::State;
+use crate::state::Told;
+use line::Line;
+use text::Place;
+use text::TextRefusal;
+use theory::Automaton;
+
+// The state before the first line.
+fn fresh(signals: Signals) -> State
+    ensures { λ r. ⌜ r ≡ freshState signals ⌝ }
+{
+    State {
+        place: Place::Head,
+        header: Automaton {
+            states: 0,
+            initial: 0,
+            inputs: 0,
+            outputs: 0,
+        },
+        signals,
+    }
+}
+
+// The refusal of a text that ends at a line, or at none.
+fn refuse(number: u32, text: u8, line: usize, state: State) -> Told
+    ensures { λ r. ⌜ r ≡ record { refused = true; refusal = record { number = number; text = text; line = line }; state = state } ⌝ }
+{
+    Told {
+        refused: true,
+        refusal: TextRefusal {
+            number,
+            text: text as u32,
+            line,
+        },
+        state,
+    }
+}
+
+// The number of a refused line; 0 of any other.
+fn refusal_of(parsed: Line) -> u32
+    ensures { λ r. ⌜ r ≡ numberIn parsed ⌝ }
+{
+    match parsed {
+        Line::Refused(number) => number,
+        Line::Taken(_, _) => 0,
+    }
+}
+
+// The lines of a text, into blank cells. After the last LF nothing may stand (14).
+fn read_lines<'a>(m: &'a [u8], p: &'a [u8], text: u8, signals: Signals, cells: &mut [u16]) -> Told
+    requires { ⌜ Blank signals (now cells) ⌝ }
+    requires { ⌜ length (textOf (now m) (now p) text) ≤ 65536 ⌝ }
+    ensures { λ r. ⌜ ReadsLines (now (m .entry)) (now (p .entry)) text signals (length (now (cells .entry))) r (now (cells .exit)) ⌝ }
+{
+    let bytes = signals::text_of(m, p, text as u32);
+    let mut st = fresh(signals);
+    let mut at: usize = 0;
+    let mut line: usize = 1;
+    while at < bytes.len() {
+        let place = st.place;
+        let parsed = line::parse(scan::after(bytes, at), place);
+        let Line::Taken(record, length) = parsed else {
+            return refuse(refusal_of(parsed), text, line, st);
+        };
+        let end = at + length;
+        let next = entries::enter(m, p, text, st, cells, at, end, record);
+        if next.refused {
+            return refuse(next.number, text, line, st);
+        }
+        let advanced = next.state;
+        st = advanced;
+        at = end + 1;
+        line += 1;
+    }
+    Told {
+        refused: false,
+        refusal: TextRefusal {
+            number: 0,
+            text: 0,
+            line: 0,
+        },
+        state: st,
+    }
+}
+
+// A text, where some signals are numbered already: 13, then its lines; 22.
+fn read<'a>(m: &'a [u8], p: &'a [u8], text: u8, signals: Signals, cells: &mut [u16]) -> Told
+    requires { ⌜ Fit signals ⌝ }
+    ensures { λ r. ⌜ Reads (now (m .entry)) (now (p .entry)) text signals (length (now (cells .entry))) r (now (cells .exit)) ⌝ }
+{
+    cells::clear(cells);
+    let bytes = signals::text_of(m, p, text as u32);
+    if 65536 < bytes.len() {
+        return refuse(13, text, 0, fresh(signals));
+    }
+    if bytes.len() == 0 {
+        return refuse(22, text, 0, fresh(signals));
+    }
+    read_lines(m, p, text, signals, cells)
+}
+
+// A text alone: it is the first, and numbers its signals from 0.
+pub fn read_one(m: &[u8], cells: &mut [u16]) -> Told
+    ensures { λ r. ⌜ ReadsOne (now (m .entry)) (length (now (cells .entry))) r (now (cells .exit)) ⌝ }
+{
+    read(m, m, 1, numbering::none(), cells)
+}
+
+// What came of the first text and of the second. Where the first is refused, nothing is read of the second, and it stands for both.
+fn join(first: Told, second: Told) -> Both
+    ensures { λ r. ⌜ r ≡ joined first second ⌝ }
+{
+    let refusal = second.refusal;
+    let start = first.state;
+    let end = second.state;
+    Both {
+        refused: second.refused,
+        refusal,
+        first: start,
+        second: end,
+    }
+}
+
+// A module's text to its end, then a plan's, whose signals continue the numbering.
+pub fn read_both<'a>(m: &'a [u8], p: &'a [u8], cm: &mut [u16], cp: &mut [u16]) -> Both
+    ensures { λ r. ⌜ ReadsBoth (now (m .entry)) (now (p .entry)) (length (now (cm .entry))) (length (now (cp .entry))) r (now (cm .exit)) (now (cp .exit)) ⌝ }
+{
+    let none = numbering::none();
+    let first = read(m, p, 1, none, cm);
+    if first.refused {
+        return join(first, first);
+    }
+    let state = first.state;
+    let second = read(m, p, 2, state.signals, cp);
+    join(first, second)
+}
