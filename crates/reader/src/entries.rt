@@ -94,7 +94,7 @@ fn with_role(header: Automaton, role: Role, signal: usize) -> Automaton
     }
 }
 
-// A declaration: 18, 21.
+// A declaration: 18, 21. The room is not read: it is that of the state, by the contract.
 fn declare<'a>(m: &'a [u8], p: &'a [u8], st: State, role: Role, name: Name, room: usize) -> Advanced
     requires { ⌜ Sound st room ⌝ }
     ensures { λ r. ⌜ Declares (now (m .entry)) (now (p .entry)) st role name room r ⌝ }
