@@ -12,7 +12,7 @@
  * that a call writes to does not overlap one that it reads; a follower is not NULL.
  *
  * Nothing is allocated and no state is kept, so calls may run at the same time on different buffers. Fit and refine want 1.2 MB of stack at
- * most, and 0.6 MB where they are refused; follow wants less than 1 KB.
+ * most, and 0.6 MB where they are refused; follow wants less than 1 KB. The archive is for x86-64, and calls memset alone.
  */
 #ifndef MOQRESAM_H
 #define MOQRESAM_H

@@ -6,8 +6,8 @@ use Rattle.line.proofs.parse.Tie as tie
 takes-step-requires : tie.Need-takes-step-requires
 takes-step-requires c κs = search needs
 
-parse-slowly-requires : tie.Need-parse-slowly-requires
-parse-slowly-requires c κs = search needs
+parse-any-requires : tie.Need-parse-any-requires
+parse-any-requires c κs = search needs
 
 returns : tie.Need-returns
 returns c = search needs
@@ -21,8 +21,8 @@ enum-known-from c = search needs
 enum-told : tie.Need-enum-told
 enum-told c = search needs
 
-parse-slowly-requires-2 : tie.Need-parse-slowly-requires-2
-parse-slowly-requires-2 c κs = search needs
+parse-any-requires-2 : tie.Need-parse-any-requires-2
+parse-any-requires-2 c κs = search needs
 
 returns-2 : tie.Need-returns-2
 returns-2 c = search needs
@@ -35,11 +35,11 @@ parse-spec =
     tie.close
     (tie.spec
     takes-step-requires
-    parse-slowly-requires
+    parse-any-requires
     returns
     step-line-requires
     enum-known-from
     enum-told
-    parse-slowly-requires-2
+    parse-any-requires-2
     returns-2
     returns-3)

@@ -1,7 +1,7 @@
 use Rattle.line.proofs.OnePass.{first-unended, first-line}
 use borrow.Author.Needs.{needs}
-use Rattle.line.proofs.parse_slowly.Statement.{statement}
-use Rattle.line.proofs.parse_slowly.Tie as tie
+use Rattle.line.proofs.parse_any.Statement.{statement}
+use Rattle.line.proofs.parse_any.Tie as tie
 
 find-requires : tie.Need-find-requires
 find-requires c κs = search needs
@@ -21,7 +21,7 @@ of-length-requires c κs = search needs
 returns-2 : tie.Need-returns-2
 returns-2 c = search (first-line, needs)
 
-pub parse-slowly-spec : {M : Type 1} → statement M
-parse-slowly-spec =
+pub parse-any-spec : {M : Type 1} → statement M
+parse-any-spec =
     tie.close
     (tie.spec find-requires returns before-requires says-requires of-length-requires returns-2)
