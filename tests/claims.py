@@ -8,6 +8,7 @@ import re
 import sys
 
 import functions
+from verdict import tell
 from wrong_programs import trials, unfit_together
 
 # The tests' own crates, which are no part of the library.
@@ -95,10 +96,7 @@ def main():
         for name in sorted(functions.public(crate, faults)):
             if len(counted.get((crate, name), ())) < 2:
                 faults.append(f"crates/{crate}: {name} has no two edits in the list of docs/CLAIMS.md")
-    for fault in faults:
-        print(fault)
-    print(f"docs/CLAIMS.md: {held} citations hold, {len(faults)} do not")
-    return 1 if faults or not held else 0
+    return tell(faults, held, f"docs/CLAIMS.md: {held} citations hold, {len(faults)} faults")
 
 
 if __name__ == "__main__":

@@ -7,6 +7,7 @@ import re
 import sys
 
 import functions
+from verdict import tell
 
 TOP = os.path.join(os.path.dirname(os.path.abspath(__file__)), "..")
 
@@ -32,10 +33,7 @@ def main():
             if function.name in names:
                 count += 1
                 faults.extend(f"crates/{crate}: {function.name} {why}" for why in faults_of(function.head))
-    for fault in faults:
-        print(fault)
-    print(f"contracts: {count} functions that can be called from outside, {len(faults)} faults")
-    return 1 if faults or not count else 0
+    return tell(faults, count, f"contracts: {count} functions that can be called from outside, {len(faults)} faults")
 
 
 if __name__ == "__main__":

@@ -6,6 +6,7 @@ import os
 import re
 import sys
 
+from verdict import tell
 from wrong_programs import trials, unfit_together
 
 TOP = os.path.join(os.path.dirname(os.path.abspath(__file__)), "..")
@@ -59,10 +60,7 @@ def main():
     for trial in trials():
         tried += len(trial.programs)
         faults.extend(f"{trial.path}: {why}" for why in judge(trial))
-    for line in faults:
-        print(line)
-    print(f"wrong programs: {tried} tried, {len(faults)} faults")
-    return 1 if faults or not tried else 0
+    return tell(faults, tried, f"wrong programs: {tried} tried, {len(faults)} faults")
 
 
 if __name__ == "__main__":
