@@ -41,17 +41,17 @@ extern "C" {
  */
 enum moqresam_refusal {
     MOQRESAM_ACCEPTED = 0,
-    MOQRESAM_REFUSED_STATES = 1,         /* the table has no state or more than 4,096 */
-    MOQRESAM_REFUSED_INITIAL = 2,        /* its first state is not below its number of states */
-    MOQRESAM_REFUSED_SHARED = 3,         /* a signal is in both of its lists */
-    MOQRESAM_REFUSED_CELL_COUNT = 4,     /* its cells are not states * 64 bytes */
-    MOQRESAM_REFUSED_CELL = 5,           /* a cell is neither 65,535 nor below the number of states */
-    MOQRESAM_REFUSED_UNDECLARED = 6,     /* a cell holds a step for a signal in neither list */
-    MOQRESAM_REFUSED_OUTPUT_OF_BOTH = 7, /* fit: a signal is an output of both tables */
-    MOQRESAM_REFUSED_PAIRS = 9,          /* the two state counts multiply to more than 4,096 */
+    MOQRESAM_REFUSED_STATES = 1,         /* no state at all, or more than 4,096 */
+    MOQRESAM_REFUSED_INITIAL = 2,        /* the first state is no state */
+    MOQRESAM_REFUSED_SHARED = 3,         /* a signal is both input and output */
+    MOQRESAM_REFUSED_CELL_COUNT = 4,     /* the cells are not 64 bytes a state */
+    MOQRESAM_REFUSED_CELL = 5,           /* a cell is neither a state nor MOQRESAM_NO_STEP */
+    MOQRESAM_REFUSED_UNDECLARED = 6,     /* a cell has a step for a signal that is not declared */
+    MOQRESAM_REFUSED_OUTPUT_OF_BOTH = 7, /* fit: both tables send one signal */
+    MOQRESAM_REFUSED_PAIRS = 9,          /* there are more than 4,096 pairs of states */
     MOQRESAM_REFUSED_BUFFER = 10,        /* the flags or marks are not exactly one byte a pair */
-    MOQRESAM_REFUSED_STATE = 11,         /* the follower's state is not below the number of states */
-    MOQRESAM_REFUSED_SIGNAL = 12         /* the signal exceeds 31 or is in neither list */
+    MOQRESAM_REFUSED_STATE = 11,         /* the follower's state is no state */
+    MOQRESAM_REFUSED_SIGNAL = 12         /* the signal is above 31, or not declared */
 };
 
 /*

@@ -42,6 +42,12 @@ run() {
     fi
 }
 
+# What the header says of the archive.
+calls_memset_alone() {
+    [ "$(nm -u "$archive" | awk '$1 == "U" { print $2 }' | sort -u)" = memset ]
+}
+
+try "archive calls memset alone" calls_memset_alone
 try "header as C" gcc -std=c99 "${strict[@]}" -fsyntax-only -x c include/moqresam.h
 try "header as C++" g++ -std=c++11 "${strict[@]}" -fsyntax-only -x c++ include/moqresam.h
 for program in tests/boundary tests/boundary_random examples/bench; do

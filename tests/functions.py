@@ -61,16 +61,19 @@ def stands_on(crate):
 
 
 def public(crate, faults):
-    """The names of the functions of a library that another crate or C can call: those of its root, and those that the root hands on."""
+    """The names of the functions of a library that another crate or C can call: those of its root, those that the root hands on, and those that are
+    exported from any file."""
     root = f"crates/{crate}/src/lib.rt"
     if not os.path.exists(root):
         return set()
-    found = set()
+    found = {function.name for text, function in of_crate(crate) if function.head.startswith('pub extern "C"')}
     for line in open(root, encoding="utf-8"):
         own = re.match(r"pub (?:extern \"C\" )?fn (\w+)", line)
         handed_on = re.fullmatch(r"pub use \w+::(\w+);\n", line)
         if own or handed_on:
             found.add((own or handed_on)[1])
-        elif re.match(r"pub (?!struct |enum |const |[a-z]+: )", line):
+        elif re.match(r"impl\b|pub (?!struct |enum |const [A-Z]|[a-z]+: )", line):
             faults.append(f"{root}: not understood: {line.strip()}")
+    for name in found - {function.name for _, function in of_crate(crate)}:
+        faults.append(f"{root}: {name} is handed on, and no function has that name")
     return found

@@ -27,17 +27,23 @@ class Trial(NamedTuple):
 
 
 def programs(path, crate, label):
-    """The wrong programs of a file, in its order."""
-    name, file, changed = label, "", {}
-    for line in open(path, encoding="utf-8").read().split("\n"):
-        kind, _, rest = line.partition(": ")
+    """The wrong programs of a file, in its order; none where a line is of no known kind, or an `old:` has no `new:` after it: rt would pass it over."""
+    name, file, changed, due = label, "", {}, "old"
+    for line in filter(None, open(path, encoding="utf-8").read().split("\n")):
+        kind, _, rest = line.partition(":")
+        rest = rest.removeprefix(" ")
+        if kind not in ("wrong", "file", due) or (due == "new" and kind != "new"):
+            return []
         if kind == "wrong":
             name = rest
         elif kind == "file":
             file = rest
         elif kind == "old":
             changed.setdefault(name, set()).add(functions.containing(crate, file, rest))
-    return [WrongProgram(name, places.pop() if len(places) == 1 else None) for name, places in changed.items()]
+            due = "new"
+        else:
+            due = "old"
+    return [WrongProgram(name, places.pop() if len(places) == 1 else None) for name, places in changed.items()] if due == "old" else []
 
 
 def trials():

@@ -1,8 +1,11 @@
 // Calls on one interface automaton (document 01: table): judging and mirroring; and the checks that the follower and the calls on two begin with.
 ghost use mathlib.Core.Path.{_≡_};
+ghost use mathlib.Core.Bool.{_&&_};
+ghost use Prim.Native.Nat.{ℕ};
 ghost use lib.Bits.{bitOr};
 ghost use lib.ListN.{take};
-ghost use Rattle.theory.specs.Table.{table, mirrorHeader};
+ghost use Rattle.theory.specs.Bounded.{any};
+ghost use Rattle.theory.specs.Table.{table, member, mirrorHeader};
 ghost use Rattle.theory.specs.Checks.{first, refuse as refused, tableChecks};
 ghost use Rattle.automaton.specs.Replies.{mirrorReply};
 ghost use Rattle.automaton.specs.Cells.{stepless};
@@ -37,6 +40,13 @@ pub fn declared(a: Automaton) -> u32
     a.inputs | a.outputs
 }
 
+// Whether an action is in both sets: then what they have in common has members.
+fn overlap(s: u32, t: u32) -> bool
+    ensures { λ r. ⌜ r ≡ any 32 (λ (a : ℕ). member s a && member t a) ⌝ }
+{
+    sets::size(s & t) != 0
+}
+
 // Checks 1 to 4, those that look at no cell; `cells` is how many there are.
 pub fn check_shape(a: Automaton, cells: usize, number: u32) -> Checked
     ensures { λ r. ⌜ r ≡ first (take 4 (tableChecks number (stepless a cells))) ⌝ }
@@ -50,7 +60,7 @@ pub fn check_shape(a: Automaton, cells: usize, number: u32) -> Checked
     if a.states <= a.initial {
         return refuse(2, number);
     }
-    if sets::intersects(a.inputs, a.outputs) {
+    if overlap(a.inputs, a.outputs) {
         return refuse(3, number);
     }
     if cells != a.states * 32 {

@@ -11,7 +11,7 @@ use Rattle.theory.specs.Bounded.{any}
 use Rattle.theory.specs.Table.{member}
 use Rattle.theory.specs.Checks.{first, refuse, check4, tableChecks}
 use Rattle.theory.proofs.Filled.{any-default}
-use Rattle.cells.specs.Bytes.{unpacked, cellsOfBytes, cellCount, tableOfBytes}
+use Rattle.cells.specs.Bytes.{cellsOfBytes, tableOfBytes}
 use Rattle.cells.proofs.Laws.{cellIn, at-cell, count-odd, count-all, cells-count, cells-at}
 
 module _ (states : ℕ) (bytes : List ℕ) (few : states ≤ 4096) where

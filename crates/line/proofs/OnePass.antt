@@ -1,6 +1,6 @@
 -- Laws for a step line that is taken apart in one pass, by what the code knows at each return.
 use mathlib.Core.Path.{_≡_, refl, sym, ap, _∙_}
-use mathlib.Core.Bool.{Bool, true, false, not, _&&_, _||_, cond, or-true}
+use mathlib.Core.Bool.{Bool, true, false, not, _||_, cond, or-true}
 use mathlib.Core.List.{List, [], _∷_, _++_, append-assoc}
 use Prim.Native.Nat.{ℕ, suc, _+_, _-_, _*_, _≤_, _<_}
 use native.Mathlib.Numerals.{add-one}

@@ -19,7 +19,7 @@ use Rattle.reader.specs.declared.state.State.{State}
 use Rattle.reader.specs.declared.entries.Advanced.{Advanced}
 use Rattle.signals.specs.declared.Name.{Name}
 use Rattle.signals.specs.Names.{textOf, nameAt}
-use Rattle.reader.specs.State.{reading, Sound, Starts, Declares, Steps, InText, Says, Enters}
+use Rattle.reader.specs.State.{reading, Starts, Declares, Steps, InText, Says, Enters}
 use Rattle.reader.proofs.Lines.{part-rest, part-part}
 
 fits-to : (n k : ℕ) → Fits w64 n → k ≤ n → Fits w64 k

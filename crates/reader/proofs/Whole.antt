@@ -22,7 +22,7 @@ use Rattle.reader.specs.declared.state.State.{State}
 use Rattle.reader.specs.declared.entries.Advanced.{Advanced}
 use Rattle.reader.specs.declared.state.Told.{Told}
 use Rattle.signals.specs.Names.{textOf}
-use Rattle.reader.specs.State.{signalsOf, reading, result, Fit, freshState, Sound, InText, Enters, Blank, Says, numberIn, ReadsLines, Reads}
+use Rattle.reader.specs.State.{signalsOf, reading, result, Fit, freshState, Sound, Enters, Blank, Says, numberIn, ReadsLines, Reads}
 use Rattle.reader.proofs.Lines.{lines-done, lines-unended, lines-onward}
 
 abbrev refusing : ℕ → ℕ → ℕ → State → Told

@@ -1,5 +1,4 @@
 -- Where a signal's name stands, for any bytes.
-use mathlib.Core.List.{List}
 use Prim.Native.Nat.{ℕ, _<_}
 use lib.ListN.{length}
 use Rattle.text.specs.Reading.{Signal, Outcome, Joint}

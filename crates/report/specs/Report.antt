@@ -4,8 +4,7 @@ use mathlib.Core.Bool.{cond}
 use mathlib.Core.List.{List, [], _++_}
 use Prim.Native.Nat.{ℕ, _*_, _/_}
 use lib.Dec.{leb}
-use lib.ListN.{length, take, drop}
-use Rattle.theory.specs.declared.Automaton.{Automaton}
+use lib.ListN.{length, drop}
 use Rattle.theory.specs.Table.{Table, table, synthesis, controller, keptCount, stepCount, endCount}
 use Rattle.theory.specs.Checks.{first, unlessRefused, synthesisChecks}
 use Rattle.text.specs.Reading.{Joint, both, neither, readBoth, cellsFirst, cellsSecond, tableRead}

@@ -21,8 +21,8 @@ refuse-requires-3 c κs = search needs
 returns-3 : tie.Need-returns-3
 returns-3 c = search (shape-2, needs)
 
-intersects-requires : tie.Need-intersects-requires
-intersects-requires c κs = search needs
+overlap-requires : tie.Need-overlap-requires
+overlap-requires c κs = search needs
 
 refuse-requires-4 : tie.Need-refuse-requires-4
 refuse-requires-4 c κs = search needs
@@ -52,7 +52,7 @@ check-shape-spec =
     returns-2
     refuse-requires-3
     returns-3
-    intersects-requires
+    overlap-requires
     refuse-requires-4
     returns-4
     mul-if5
