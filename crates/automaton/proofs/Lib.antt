@@ -1,3 +1,4 @@
 pub mod Counts
 pub mod Checks
 pub mod Replies
+pub mod Cleared

@@ -1,9 +1,10 @@
-// Calls on one interface automaton (document 01: table): judging and mirroring; and the checks that the follower and the calls on two begin with.
+// Calls on one interface automaton (document 01: table): judging, mirroring and clearing; and the checks that the follower and the calls on two begin
+// with.
 ghost use mathlib.Core.Path.{_≡_};
 ghost use mathlib.Core.Bool.{_&&_};
 ghost use Prim.Native.Nat.{ℕ};
 ghost use lib.Bits.{bitOr};
-ghost use lib.ListN.{take};
+ghost use lib.ListN.{length, take, replicate};
 ghost use Rattle.theory.specs.Bounded.{any};
 ghost use Rattle.theory.specs.Table.{table, member, mirrorHeader};
 ghost use Rattle.theory.specs.Checks.{first, refuse as refused, tableChecks};
@@ -116,5 +117,14 @@ pub fn mirror(a: Automaton, cells: &[u16]) -> Mirrored
     match check(a, cells, 1) {
         Checked::Refused(r) => Mirrored::Refused(r),
         Checked::Accepted => Mirrored::Mirror(exchange(a)),
+    }
+}
+
+// Leaves a table without steps: every cell is 65,535.
+pub fn clear(cells: &mut [u16])
+    ensures { λ _. ⌜ now (cells .exit) ≡ replicate (length (now (cells .entry))) 65535 ⌝ }
+{
+    for i in 0..cells.len() {
+        cells[i] = 65535;
     }
 }

@@ -1,4 +1,3 @@
-pub mod Blanks
 pub mod Names
 pub mod Changes
 pub mod Lines

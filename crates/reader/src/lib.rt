@@ -7,7 +7,6 @@ ghost use Rattle.reader.specs.Replies.{aloneReply, togetherReply};
 use text::TextRefusal;
 use theory::Automaton;
 
-mod cells;
 mod entries;
 mod numbering;
 mod places;
@@ -48,7 +47,7 @@ pub fn read_alone(m: &[u8], cells: &mut [u16]) -> Alone
 {
     let told = texts::read_one(m, cells);
     if told.refused {
-        cells::clear(cells);
+        automaton::clear(cells);
         let refusal = told.refusal;
         return Alone::Refused(refusal);
     }
@@ -65,8 +64,8 @@ pub fn read_together<'a>(m: &'a [u8], p: &'a [u8], cm: &mut [u16], cp: &mut [u16
 {
     let told = texts::read_both(m, p, cm, cp);
     if told.refused {
-        cells::clear(cm);
-        cells::clear(cp);
+        automaton::clear(cm);
+        automaton::clear(cp);
         let refusal = told.refusal;
         return Together::Refused(refusal);
     }

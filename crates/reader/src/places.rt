@@ -8,7 +8,6 @@ ghost use Rattle.signals.specs.Names.{isDeclared};
 ghost use Rattle.reader.specs.State.{signalsOf};
 ghost use Rattle.reader.specs.Places.{placed, foundIn, foundAloneIn, Held};
 use crate::Found;
-use crate::cells;
 use crate::state::Signals;
 use crate::texts;
 use theory::Automaton;
@@ -57,8 +56,8 @@ pub fn find_in<'a>(m: &'a [u8], p: &'a [u8], signal: usize, cm: &mut [u16], cp: 
 {
     let told = texts::read_both(m, p, cm, cp);
     if told.refused {
-        cells::clear(cm);
-        cells::clear(cp);
+        automaton::clear(cm);
+        automaton::clear(cp);
         let refusal = told.refusal;
         return nowhere(refusal.number);
     }
@@ -78,7 +77,7 @@ pub fn find_alone_in(m: &[u8], signal: usize, cells: &mut [u16]) -> Found
 {
     let told = texts::read_one(m, cells);
     if told.refused {
-        cells::clear(cells);
+        automaton::clear(cells);
         let refusal = told.refusal;
         return nowhere(refusal.number);
     }

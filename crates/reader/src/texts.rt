@@ -5,7 +5,6 @@ ghost use Prim.Native.Nat.{_≤_};
 ghost use lib.ListN.{length};
 ghost use Rattle.signals.specs.Names.{textOf};
 ghost use Rattle.reader.specs.State.{Fit, freshState, Blank, numberIn, ReadsLines, Reads, ReadsOne, joined, ReadsBoth};
-use crate::cells;
 use crate::entries;
 use crate::numbering;
 use crate::state::Both;
@@ -100,7 +99,7 @@ fn read<'a>(m: &'a [u8], p: &'a [u8], text: u8, signals: Signals, cells: &mut [u
     requires { ⌜ Fit signals ⌝ }
     ensures { λ r. ⌜ Reads (now (m .entry)) (now (p .entry)) text signals (length (now (cells .entry))) r (now (cells .exit)) ⌝ }
 {
-    cells::clear(cells);
+    automaton::clear(cells);
     let bytes = signals::text_of(m, p, text as u32);
     if 65536 < bytes.len() {
         return refuse(13, text, 0, fresh(signals));

@@ -1,4 +1,4 @@
--- Cells cleared one after the other.
+-- How `clear` comes to its end: cells cleared one after the other.
 use mathlib.Core.Path.{_≡_, _∙_}
 use mathlib.Core.List.{List, _++_, append-nil}
 use Prim.Native.Nat.{ℕ, _+_, _<_, _≤_}

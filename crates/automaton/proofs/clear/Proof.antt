@@ -2,10 +2,10 @@ use mathlib.Core.Path.{_≡_}
 use mathlib.Core.List.{_++_}
 use Prim.Native.Nat.{_-_, _≤_}
 use lib.ListN.{length, drop, replicate}
-use Rattle.reader.proofs.Blanks.{blank-next, blank-all}
+use Rattle.automaton.proofs.Cleared.{blank-next, blank-all}
 use borrow.Author.Needs.{needs}
-use Rattle.reader.proofs.cells.clear.Statement.{statement}
-use Rattle.reader.proofs.cells.clear.Tie as tie
+use Rattle.automaton.proofs.clear.Statement.{statement}
+use Rattle.automaton.proofs.clear.Tie as tie
 
 abbrev Inv-loop : tie.InvT-loop
 Inv-loop cells₀ i₀ i-end cells i =
