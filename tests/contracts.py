@@ -1,8 +1,11 @@
 #!/usr/bin/env python3
 """Looks at the contract of every function that another crate or C can call: it asks nothing of its caller (no `requires`); what it returns, and what
-stands at exit in each buffer that it is lent to write to, is given by an equation without a premise. The exit status says so.
+stands at exit in each buffer that it is lent to write to, is given by an equation without a premise, whose right side speaks neither of the result nor
+of a buffer at exit; of a part that it returns, the bytes and the place are. And no symbol that a contract or a definition takes from the kit's
+library is given another meaning in specs/. The exit status says so. tests/contracts_test.py feeds it contracts that are wrong.
 
 A contract by a definition of another form is named below, with the words that stand for the equation: what these say has to be read."""
+import glob
 import os
 import re
 import sys
@@ -23,32 +26,138 @@ OTHERWISE = {
     ("harness", "harness_report"): "Told (now (m .entry))",
 }
 
+# A clause, and of the last one the brace of the body.
+CLAUSE = re.compile(r"ensures(?: \w+)? \{ λ \w+\. ⌜ (.*) ⌝ \}(?:\n\{)?", re.DOTALL)
+DECLARED = re.compile(r"( *)(?:unfoldable |abbrev )*(?:pub )?(data |record )?(\S+)(?: [({].*)? :")
+OPEN, SHUT = "([{⟦", ")]}⟧"
+# What makes an equation a part of a weaker statement: a premise, a choice, a quantifier.
+WEAKER = "→⊎↔∨∀∃Σλ"
 
-def faults_of(head, otherwise):
-    """What is missing in a function's contract, or too much."""
-    signature, *clauses = re.split(r"\n    (?:ensures|requires)\b", head)
-    equations = " ".join(clause for clause in clauses if "→" not in clause)
-    if "requires" in head:
+
+def parts(words, mark):
+    """The words cut at each mark that stands in no bracket."""
+    depth, cut = 0, [""]
+    for letter in words:
+        depth += (letter in OPEN) - (letter in SHUT)
+        if letter == mark and depth == 0:
+            cut.append("")
+        else:
+            cut[-1] += letter
+    return [part.strip() for part in cut]
+
+
+def bare(words):
+    """The words without brackets around the whole of them."""
+    while words.startswith("(") and words.endswith(")"):
+        depths = [words[: k + 1].count("(") - words[: k + 1].count(")") for k in range(len(words) - 1)]
+        if 0 in depths:
+            break
+        words = words[1:-1].strip()
+    return words
+
+
+def equations(head):
+    """What the contract gives without a premise, each left side with its right side: the clauses are taken apart at `×`, and a clause that has what
+    makes it weaker gives nothing."""
+    for clause in re.split(r"\n    (?=ensures|requires)\b", head)[1:]:
+        said = CLAUSE.fullmatch(clause.strip())
+        said = bare(said[1]) if said else ""
+        for part in [bare(part) for part in parts(said, "×")] if is_plain(said) else []:
+            sides = parts(part, "≡")
+            if is_plain(part) and len(sides) == 2:
+                yield sides[0], sides[1]
+
+
+def is_plain(words):
+    """Whether nothing outside its brackets makes a statement weaker."""
+    return all(len(parts(words, mark)) == 1 for mark in WEAKER)
+
+
+def is_free(right):
+    """Whether the right side of an equation speaks of what was there before the call alone."""
+    return not re.search(r"(?<![\w.])r(?!\w)|\.exit\b", right)
+
+
+def lefts_of(name):
+    """The left sides that give all that stands in a buffer at exit: the buffer, or several at once. Of a lent record a field is asked for by its name."""
+    exit_of = r"now \(\w+ \.exit\)"
+    return rf"(?:\((?:{exit_of}, )*now \({name} \.exit\)(?:, {exit_of})*\)|now \({name} \.exit\)( \.\w+)?)"
+
+
+def faults_of(head, otherwise=None, fields=lambda kind: None):
+    """What is missing in a function's contract, or too much. `fields` gives the names of a declared record's fields."""
+    signature = re.split(r"\n    (?:ensures|requires)\b", head)[0]
+    if re.search(r"\n    requires\b", head):
         yield "asks something of its caller"
-    if otherwise and otherwise in equations:
+    if otherwise and otherwise in head:
         return
-    if "->" in signature and not re.search(r"λ r\. ⌜ \(?(?:now )?r ≡ (?!r\b)", equations):
-        yield "does not say by an equation what it returns"
-    for lent in re.findall(r"(\w+): &(?:'\w+ )?mut\b", signature):
-        at_exit = rf"(?:now \(\w+ \.exit\), )*now \({lent} \.exit\)(?: \.\w+|, now \(\w+ \.exit\))*"
-        if not re.search(rf"[⌜×] \(?{at_exit}\)? ≡", equations):
+    given = list(equations(head))
+    wanted = ["r"] if "->" in signature else []
+    if re.search(r"-> &", signature):
+        wanted = ["now r", "ptr r"]
+    for left in wanted:
+        if not any(side == left and is_free(right) for side, right in given):
+            yield f"does not say by an equation what {left} is"
+    for lent, kind in re.findall(r"(\w+): &(?:'\w+ )?mut (\[\w+\]|\w+)", signature):
+        whole = [re.fullmatch(lefts_of(lent), side) for side, right in given if is_free(right)]
+        field = [f" .{name}" for name in fields(kind) or []]
+        if not any(said and (said[1] is None or field == [said[1]]) for said in whole):
             yield f"does not say by an equation what stands in {lent} at exit"
+
+
+def fields_in(crate):
+    """For a crate, what gives the names of the fields of a record that it declares."""
+    text = "".join(open(path, encoding="utf-8").read() for path in glob.glob(f"crates/{crate}/src/*.rt"))
+
+    def fields(kind):
+        declared = re.search(rf"(?m)^pub struct {re.escape(kind)} \{{\n((?:.*\n)*?)\}}", text)
+        return re.findall(r"pub (\w+):", declared[1]) if declared else None
+
+    return fields
+
+
+def declared_in(text):
+    """The names that a file of definitions declares, but for the fields of records."""
+    record = None
+    for line in text.split("\n"):
+        said = DECLARED.match(line)
+        indent = len(line) - len(line.lstrip(" "))
+        if line.strip() and record is not None and indent <= record:
+            record = None
+        if said and record is None:
+            yield said[3]
+        if said and said[2] == "record ":
+            record = indent
+
+
+def taken_from_kit(text):
+    """The names that a file takes from the kit's library, as it calls them."""
+    for names in re.findall(r"(?m)^(?:ghost )?use (?!Rattle·)[\w.·-]+\.\{([^}]*)\}", text):
+        yield from (name.split(" as ")[-1].strip() for name in names.split(","))
+
+
+def second_meanings(files):
+    """The symbols that are taken from the kit in one file and declared in specs/ of another; `files` has the text of each by its path."""
+    kit = {name for text in files.values() for name in taken_from_kit(text)}
+    for path, text in sorted(files.items()):
+        if "/specs/" in path:
+            yield from (f"{path}: gives {name} a meaning of its own" for name in declared_in(text) if name in kit)
 
 
 def main():
     os.chdir(TOP)
-    count, faults = 0, []
+    count, faults, unmet = 0, [], set(OTHERWISE)
     for crate in sorted(os.listdir("crates")):
-        names = functions.public(crate, faults)
+        names, fields = functions.public(crate, faults), fields_in(crate)
         for _, function in functions.of_crate(crate):
             if function.name in names:
                 count += 1
-                faults.extend(f"crates/{crate}: {function.name} {why}" for why in faults_of(function.head, OTHERWISE.get((crate, function.name))))
+                unmet.discard((crate, function.name))
+                why = faults_of(function.head, OTHERWISE.get((crate, function.name)), fields)
+                faults.extend(f"crates/{crate}: {function.name} {fault}" for fault in why)
+    faults.extend(f"tests/contracts.py: names {crate}::{name}, which is not there" for crate, name in sorted(unmet))
+    paths = glob.glob("crates/*/specs/*.antt") + glob.glob("crates/*/src/*.rt")
+    faults.extend(second_meanings({path: open(path, encoding="utf-8").read() for path in paths}))
     return tell(faults, count, f"contracts: {count} functions that can be called from outside, {len(faults)} faults")
 
 

@@ -21,14 +21,14 @@ target [] s a = 65535
 target (x ∷ l) s a = cond (eqb (x .0) s && eqb (x .1) a) (x .2) (target l s a)
 
 -- The set of some signals.
-abbrev pub set : List ℕ → ℕ
-set [] = 0
-set (a ∷ l) = 2 ^ a + set l
+abbrev pub actionSet : List ℕ → ℕ
+actionSet [] = 0
+actionSet (a ∷ l) = 2 ^ a + actionSet l
 
 -- So many states, the first state 0, inputs, outputs, steps.
 abbrev pub written : ℕ → List ℕ → List ℕ → List Step → Table
 written n inputs outputs l =
-    table (record { states = n; initial = 0; inputs = set inputs; outputs = set outputs })
+    table (record { states = n; initial = 0; inputs = actionSet inputs; outputs = actionSet outputs })
     (tabulate (λ k. target l (k / 32) (k % 32)) 0 (n * 32))
 
 -- The steps of a table, in the order of its cells: so many cells from k on.
@@ -154,15 +154,15 @@ situations =
     ∷ row ref hasty (fit ∷ compose ∷ []) (fits false 2 ∷ composed (figured false 9 4 2 2) ∷ [])
     -- The run: ends 9, the lists, and its six steps.
     ∷ row ref plan (make ∷ []) (
-    made (figured true 15 11 1 6) 9 (set (settled ∷ start ∷ [])) (set (power ∷ read ∷ []))
+    made (figured true 15 11 1 6) 9 (actionSet (settled ∷ start ∷ [])) (actionSet (power ∷ read ∷ []))
     ((0, start, 1) ∷ (1, power, 7) ∷ (3, read, 4) ∷ (7, settled, 13) ∷ (10, start, 11) ∷ (13, read, 14) ∷ [])
     ∷ [])
     -- No step by power; the first pair takes start alone, and the pair after it nothing.
     ∷ row ref waiting (make ∷ []) (
-    made (figured true 12 8 1 4) 8 (set (settled ∷ start ∷ [])) (set (power ∷ read ∷ []))
+    made (figured true 12 8 1 4) 8 (actionSet (settled ∷ start ∷ [])) (actionSet (power ∷ read ∷ []))
     ((0, start, 1) ∷ (2, read, 3) ∷ (8, start, 9) ∷ (10, read, 11) ∷ [])
     ∷ [])
-    ∷ row ref twice (make ∷ []) (made (figured false 9 2 2 0) 9 (set (power ∷ settled ∷ [])) (set []) [] ∷ [])
+    ∷ row ref twice (make ∷ []) (made (figured false 9 2 2 0) 9 (actionSet (power ∷ settled ∷ [])) (actionSet []) [] ∷ [])
     ∷ row ref ref (refine ∷ []) (refines true ∷ [])
     ∷ row again ref (refine ∷ []) (refines true ∷ [])
     ∷ row ref again (refine ∷ []) (refines false ∷ [])
