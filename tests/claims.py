@@ -1,8 +1,8 @@
 #!/usr/bin/env python3
-"""Holds docs/CLAIMS.md to the tree: every file and every name that it cites is there; every wrong program that it cites is tried, and every one
-that is tried is cited; a function whose contract fails under one, as the list has it, stands on what that one changes; every function of the
-library that another crate or C can call has two of its crate or more in the list; no folder of crates/ is left out of crates.txt. The exit status
-says so."""
+"""Holds docs/CLAIMS.md and docs/PROMISES.md to the tree: every file and every name that they cite is there; every wrong program that the claims cite is
+tried, and every one that is tried is cited; a function whose contract fails under one, as the list has it, stands on what that one changes; every
+function of the library that another crate or C can call has two of its crate or more in the list; no folder of crates/ is left out of crates.txt. The
+exit status says so."""
 import os
 import re
 import sys
@@ -66,15 +66,13 @@ def functions_tried(lines, changed, faults):
     return tried
 
 
-def main():
-    os.chdir(TOP)
-    lines = open("docs/CLAIMS.md", encoding="utf-8").read().split("\n")
-    held, faults, cited = 0, [], set()
-    tried = wrong_programs(faults)
-    for number, line in enumerate(lines, 1):
+def held_by(document, faults):
+    """How many files and names a document cites that are there; any other is a fault."""
+    held = 0
+    for number, line in enumerate(open(document, encoding="utf-8").read().split("\n"), 1):
         for path, names in re.findall(r"`([\w/.-]+\.\w+|\.ci/run)`(?:: ((?:`[^`]+`(?:, )?)+))?", line):
             if not os.path.exists(path):
-                faults.append(f"docs/CLAIMS.md:{number}: no file {path}")
+                faults.append(f"{document}:{number}: no file {path}")
                 continue
             held += 1
             text = open(path, encoding="utf-8").read()
@@ -82,7 +80,17 @@ def main():
                 if declares(path, text, name):
                     held += 1
                 else:
-                    faults.append(f"docs/CLAIMS.md:{number}: {path} does not declare {name}")
+                    faults.append(f"{document}:{number}: {path} does not declare {name}")
+    return held
+
+
+def main():
+    os.chdir(TOP)
+    faults, cited = [], set()
+    held = held_by("docs/CLAIMS.md", faults) + held_by("docs/PROMISES.md", faults)
+    lines = open("docs/CLAIMS.md", encoding="utf-8").read().split("\n")
+    tried = wrong_programs(faults)
+    for number, line in enumerate(lines, 1):
         for crate, name in re.findall(r"edit ([a-z_]+)/([a-z0-9_]+)", line):
             cited.add((crate, name))
             if (crate, name) in tried:
@@ -96,7 +104,7 @@ def main():
         for name in sorted(functions.public(crate, faults)):
             if len(counted.get((crate, name), ())) < 2:
                 faults.append(f"crates/{crate}: {name} has no two edits in the list of docs/CLAIMS.md")
-    return tell(faults, held, f"docs/CLAIMS.md: {held} citations hold, {len(faults)} faults")
+    return tell(faults, held, f"docs/CLAIMS.md and docs/PROMISES.md: {held} citations hold, {len(faults)} faults")
 
 
 if __name__ == "__main__":
