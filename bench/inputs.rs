@@ -72,6 +72,13 @@ pub fn chain_refined(na: usize, nb: usize) -> (Owned, Owned) {
     (a, b.mirror())
 }
 
+/// The chain with a step for a signal in neither list in its last row, so that 6 applies there.
+pub fn undeclared_at_end(states: usize) -> Owned {
+    let mut t = chain_refined(states, 1).0;
+    t.step(states - 1, 31, 0);
+    t
+}
+
 /// A random table: a step for one output in two, and for every input but about `missing` in the whole table.
 fn random(r: &mut Random, states: usize, inputs: u32, outputs: u32, missing: usize) -> Owned {
     let mut t = Owned::new(states, inputs, outputs);

@@ -14,6 +14,7 @@ const SIGNALS: usize = 1_000_000;
 
 #[derive(Clone, Copy, PartialEq)]
 pub enum Call {
+    Judge,
     Fit,
     Refine,
     Synthesize,
@@ -25,6 +26,7 @@ pub enum Call {
 impl Call {
     pub fn name(self) -> &'static str {
         match self {
+            Call::Judge => "judge",
             Call::Fit => "fit",
             Call::Refine => "refine",
             Call::Synthesize => "synthesize",
@@ -39,6 +41,7 @@ impl Call {
         match self {
             Call::Read | Call::Write => "bytes",
             Call::Follow => "signals",
+            Call::Judge => "states",
             _ => "pairs",
         }
     }
@@ -68,8 +71,14 @@ impl Job {
         }
     }
 
-    pub fn of_bytes(call: Call, family: &str, table: Owned, bytes: Vec<u8>) -> Job {
+    pub fn of_table(call: Call, family: &str, table: Owned) -> Job {
         let mut job = Job::of_pairs(call, family, vec![(table.clone(), table)]);
+        job.size = job.tables[0].0.states;
+        job
+    }
+
+    pub fn of_bytes(call: Call, family: &str, table: Owned, bytes: Vec<u8>) -> Job {
+        let mut job = Job::of_table(call, family, table);
         job.size = bytes.len();
         job.bytes = bytes;
         job
@@ -121,6 +130,16 @@ fn randoms() -> Vec<Job> {
     jobs
 }
 
+/// Tables judged alone, of as many states as the families over pairs have pairs: without fault, and with a step for an undeclared signal in the
+/// last row.
+fn judged() -> Vec<Job> {
+    let states = || SIZES.iter().map(|n| n * n);
+    let sound = |n| Job::of_table(Call::Judge, "few signals", inputs::chain_refined(n, 1).0);
+    let dense = |n| Job::of_table(Call::Judge, "32 signals", inputs::followed(SEED, n));
+    let faulty = |n| Job::of_table(Call::Judge, "fault in the last row", inputs::undeclared_at_end(n));
+    states().map(sound).chain(states().map(dense)).chain(states().map(faulty)).collect()
+}
+
 /// Document 000's counter, Table 1. With its error variable among the states the largest is beyond the library's limit.
 fn counters() -> Vec<Job> {
     let plain = (9..14).map(|k| ("counter", k, inputs::counter(k)));
@@ -160,7 +179,8 @@ fn follows() -> Vec<Job> {
 
 /// The jobs whose title has this part.
 pub fn all(part: &str) -> Vec<Job> {
-    let mut jobs = chains();
+    let mut jobs = judged();
+    jobs.extend(chains());
     jobs.extend(randoms());
     jobs.extend(counters());
     jobs.extend(texts());

@@ -3,6 +3,7 @@
 use crate::plain::{self, Reply, Scratch, Table};
 
 pub trait Library {
+    fn judge(&mut self, t: &Table) -> Reply;
     fn fit(&mut self, a: &Table, b: &Table, flags: &mut [u8]) -> Reply;
     fn refine(&mut self, a: &Table, b: &Table, marks: &mut [u8]) -> Reply;
     fn synthesize(&mut self, a: &Table, b: &Table, cells: &mut [u16], flags: &mut [u8]) -> Reply;
@@ -47,6 +48,7 @@ fn c_table(t: &Table) -> CTable {
 
 #[rustfmt::skip]
 unsafe extern "C" {
+    fn harness_judge(s: usize, i: usize, inputs: u32, outputs: u32, c: *const u16, n: usize) -> Reply;
     fn harness_fit(
         sa: usize, ia: usize, ina: u32, outa: u32, ca: *const u16, na: usize,
         sb: usize, ib: usize, inb: u32, outb: u32, cb: *const u16, nb: usize,
@@ -67,6 +69,7 @@ unsafe extern "C" {
         s: usize, i: usize, inputs: u32, outputs: u32, c: *const u16, n: usize,
         name: *const u8, nn: usize, names: *const Part, nnames: usize, out: *mut u8, nout: usize) -> Reply;
 
+    fn plain_judge(t: *const CTable) -> Reply;
     fn plain_fit(a: *const CTable, b: *const CTable, flags: *mut u8, n: usize) -> Reply;
     fn plain_refine(a: *const CTable, b: *const CTable, marks: *mut u8, n: usize) -> Reply;
     fn plain_synthesize(a: *const CTable, b: *const CTable, cells: *mut u16, m: usize, flags: *mut u8, n: usize) -> Reply;
@@ -78,6 +81,10 @@ unsafe extern "C" {
 // Every pointer below comes from a slice and goes with its length, and no slice that is written overlaps another.
 #[rustfmt::skip]
 impl Library for Archive {
+    fn judge(&mut self, t: &Table) -> Reply {
+        unsafe { harness_judge(t.states, t.initial, t.inputs, t.outputs, t.cells.as_ptr(), t.cells.len()) }
+    }
+
     fn fit(&mut self, a: &Table, b: &Table, flags: &mut [u8]) -> Reply {
         unsafe {
             harness_fit(
@@ -132,6 +139,10 @@ impl Library for Archive {
 }
 
 impl Library for PlainC {
+    fn judge(&mut self, t: &Table) -> Reply {
+        unsafe { plain_judge(&c_table(t)) }
+    }
+
     fn fit(&mut self, a: &Table, b: &Table, flags: &mut [u8]) -> Reply {
         unsafe { plain_fit(&c_table(a), &c_table(b), flags.as_mut_ptr(), flags.len()) }
     }
@@ -160,6 +171,10 @@ impl Library for PlainC {
 }
 
 impl Library for PlainRust {
+    fn judge(&mut self, t: &Table) -> Reply {
+        self.0.judge(*t)
+    }
+
     fn fit(&mut self, a: &Table, b: &Table, flags: &mut [u8]) -> Reply {
         self.0.fit(*a, *b, flags)
     }

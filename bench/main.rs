@@ -48,7 +48,7 @@ fn buffers(job: &Job) -> Buffers {
         Call::Synthesize => (job.size * 32, 0, job.size),
         Call::Read => (a.cells.len(), b.cells.len(), 0),
         Call::Write => (0, 0, 65536),
-        Call::Follow => (0, 0, 0),
+        Call::Judge | Call::Follow => (0, 0, 0),
     };
     Buffers { cells: vec![0x707; cells], others: vec![0x707; others], bytes: vec![7; bytes] }
 }
@@ -72,6 +72,7 @@ fn run(l: &mut dyn Library, r: &Ready, i: usize, to: &mut Buffers) -> Reply {
     let (a, b) = &job.tables[i % job.tables.len()];
     let (a, b) = (a.table(), b.table());
     match job.call {
+        Call::Judge => l.judge(&a),
         Call::Fit => l.fit(&a, &b, &mut to.bytes),
         Call::Refine => l.refine(&a, &b, &mut to.bytes),
         Call::Synthesize => l.synthesize(&a, &b, &mut to.cells, &mut to.bytes),

@@ -39,6 +39,7 @@ struct reply {
     uint32_t outputs_2;
 };
 
+struct reply plain_judge(const struct table *t);
 struct reply plain_fit(const struct table *a, const struct table *b, uint8_t *flags, size_t length);
 struct reply plain_refine(const struct table *a, const struct table *b, uint8_t *marks, size_t length);
 struct reply plain_synthesize(const struct table *a, const struct table *b, uint16_t *cells, size_t count, uint8_t *flags, size_t length);

@@ -107,7 +107,7 @@ fn print_goals(rows: &[Row]) {
     print_ratio_goal("(a) from 256 pairs up at most 1.1 times the faster baseline", large);
     print_growth_goal("(b) linear: time grows at most 1.25 times as much as the pairs", steps.collect());
     print_small_goal("(c) up to 64 pairs under 10 us", small);
-    print_ratio_goal("(d) texts and the follower at most 1.1 times the faster baseline", others.collect());
+    print_ratio_goal("(d) judging, texts and the follower at most 1.1 times the faster baseline", others.collect());
 }
 
 pub fn print(rows: &[Row]) {
