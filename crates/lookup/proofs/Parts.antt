@@ -1,50 +1,90 @@
--- The part of a text that a lookup's place says is the name.
+-- The part of a text that a lookup's place says: its bytes are the name, and it stands where the name was first declared.
 use mathlib.Core.Path.{_≡_, refl, sym, subst, ap, _∙_}
-use mathlib.Core.Bool.{Bool, true, false}
+use mathlib.Core.Bool.{Bool, true, false, _&&_}
 use mathlib.Core.List.{List}
-use Prim.Native.Nat.{ℕ}
-use lib.Dec.{T}
-use lib.ListN.{length, take, drop}
+use Prim.Native.Nat.{ℕ, _-_, _≤_, min}
+use native.Mathlib.Omega.{arith}
+use native.Mathlib.Decide.{decLe}
+use lib.Dec.{T, leb, leb→le}
+use lib.ListN.{length, take, drop, length-take, length-drop}
+use Rattle.theory.proofs.Tests.{and-left}
+use Rattle.text.specs.Fields.{all, nameByte, nameOk}
 use Rattle.text.specs.Reading.{Signal, Outcome, finished, ended, Joint, both, neither, readAlone, readBoth}
-use Rattle.text.specs.Lookup.{ample, declares, lookup, lookupNumber, lookupAlone, lookupNumberAlone}
+use Rattle.text.specs.Lookup.{ample, nobody, declares, lookup, lookupNumber, lookupAlone, lookupNumberAlone}
 use Rattle.text.proofs.Parts.{Stands, lookup-part-alone, lookup-part-first, lookup-part-second}
-use Rattle.reader.specs.declared.Found.{Found}
+use Rattle.scan.specs.Places.{forward, placeIn}
 use Rattle.signals.specs.Names.{textOf}
-use Rattle.lookup.specs.Places.{found, foundAlone}
+use Rattle.reader.specs.declared.Found.{Found}
+use Rattle.reader.specs.Places.{found, foundAlone}
+
+-- ---- a name stands in its text where the signal says
+
+pub record There (bytes : List ℕ) (s : Signal) : Type 0 where
+  pub part : take (length (s .name)) (drop (s .from) bytes) ≡ s .name
+  pub inside : s .from ≤ length bytes
+
+nobody-there : (bytes : List ℕ) → There bytes nobody
+nobody-there bytes = record { part = refl; inside = omega arith }
+
+not-empty : (name : List ℕ) → T (nameOk name) → 1 ≤ length name
+unfolding nameOk
+not-empty name h =
+    leb→le 1 (length name) (and-left (leb 1 (length name)) (leb (length name) 16) (and-left (leb 1 (length name) && leb (length name) 16) (all nameByte name) h))
+
+-- A name has a byte, so its place is inside its text.
+stands-there : (text : ℕ) (bytes : List ℕ) (s : Signal) → Stands text bytes s → There bytes s
+stands-there text bytes s h = record { part = h .part; inside = inside }
+  where
+    inside : s .from ≤ length bytes
+    inside = elim (decLe (s .from) (length bytes)) [
+      | yes k ↦ k
+      | no g ↦
+          let size : min (length (s .name)) (length bytes - s .from) ≡ length (s .name) =
+          ap (min (length (s .name))) (sym (length-drop (s .from) bytes)) ∙ sym (length-take (length (s .name)) (drop (s .from) bytes)) ∙ ap length (h .part) in
+          absurd (omega (arith, g, not-empty (s .name) (h .rule), size))
+    ]
+
+-- The place of a byte of a text, or of its end.
+place-inside : (start : ℕ × ℕ) (bytes : List ℕ) (at : ℕ) → at ≤ length bytes → placeIn start bytes at ≡ forward start at
+place-inside start bytes at h = let e : min at (length bytes) ≡ at = omega arith in rw e
 
 -- ---- two texts
 
 module _ (m p : List ℕ) where
-  -- The name stands where the signal says, in the text that it names.
-  abbrev There : Signal → Type 0
-  There s = take (length (s .name)) (drop (s .from) (textOf m p (s .text))) ≡ s .name
+  abbrev ThereOf : Signal → Type 0
+  ThereOf s = There (textOf m p (s .text)) s
 
-  in-first : (s : Signal) → Stands 1 m s → There s
-  in-first s h = ap (λ n. take (length (s .name)) (drop (s .from) (textOf m p n))) (h .named) ∙ h .part
+  in-first : (s : Signal) → Stands 1 m s → ThereOf s
+  in-first s h = subst (λ n. There (textOf m p n) s) (sym (h .named)) (stands-there 1 m s h)
 
-  in-second : (s : Signal) → Stands 2 p s → There s
-  in-second s h = ap (λ n. take (length (s .name)) (drop (s .from) (textOf m p n))) (h .named) ∙ h .part
+  in-second : (s : Signal) → Stands 2 p s → ThereOf s
+  in-second s h = subst (λ n. There (textOf m p n) s) (sym (h .named)) (stands-there 2 p s h)
 
-  there : (a : ℕ) → There (lookup m p a)
+  there : (a : ℕ) → ThereOf (lookup m p a)
   unfolding lookup
   there a = go (readBoth ample m ample p) refl
     where
-      go : (j : Joint) → readBoth ample m ample p ≡ j → There (lookup m p a)
-      go (neither r) e = rw e
+      go : (j : Joint) → readBoth ample m ample p ≡ j → ThereOf (lookup m p a)
+      go (neither r) e = rw e (nobody-there m)
       go (both x y) e = first (declares x a) refl
         where
-          second : (c : Bool) → declares x a ≡ false → declares y a ≡ c → There (lookup m p a)
+          second : (c : Bool) → declares x a ≡ false → declares y a ≡ c → ThereOf (lookup m p a)
           second true f g = in-second _ (lookup-part-second m p x y e a (λ t. subst T f t) (subst T (sym g) tt))
-          second false f g = rw (e, f, g)
+          second false f g = rw (e, f, g) (nobody-there m)
 
-          first : (b : Bool) → declares x a ≡ b → There (lookup m p a)
+          first : (b : Bool) → declares x a ≡ b → ThereOf (lookup m p a)
           first true f = in-first _ (lookup-part-first m p x y e a (subst T (sym f) tt))
           first false f = second (declares y a) f refl
 
   module _ (a : ℕ) (f : Found) (is-found : f ≡ found m p a) where
     pub part-name : (t rest r : List ℕ) → t ≡ textOf m p (f .text) → rest ≡ drop (f .from) t → r ≡ take (f .length) rest → r ≡ lookup m p a .name
     unfolding found
-    part-name t rest r e g h = h ∙ rw (g, e, is-found) (there a)
+    part-name t rest r e g h = h ∙ rw (g, e, is-found) (there a .part)
+
+    pub part-place : (x y at : ℕ × ℕ) (t : List ℕ) (rest r : ℕ × ℕ) → t ≡ textOf m p (f .text) → at ≡ textOf x y (f .text)
+        → rest ≡ placeIn at t (f .from) → r ≡ rest → r ≡ forward (textOf x y (lookup m p a .text)) (lookup m p a .from)
+    unfolding found
+    part-place x y at t rest r e k g h = h ∙ g ∙ rw (e, k, is-found) (place-inside _ (textOf m p (lookup m p a .text)) _ (there a .inside))
 
     pub part-number : f .number ≡ lookupNumber m p a
     unfolding found
@@ -52,22 +92,26 @@ module _ (m p : List ℕ) where
 
 -- ---- a text alone
 
-there-alone : (m : List ℕ) (a : ℕ) → take (length (lookupAlone m a .name)) (drop (lookupAlone m a .from) m) ≡ lookupAlone m a .name
+there-alone : (m : List ℕ) (a : ℕ) → There m (lookupAlone m a)
 unfolding lookupAlone
 there-alone m a = go (readAlone ample m) refl
   where
-    go : (o : Outcome) → readAlone ample m ≡ o → take (length (lookupAlone m a .name)) (drop (lookupAlone m a .from) m) ≡ lookupAlone m a .name
-    go (ended r) e = rw e
+    go : (o : Outcome) → readAlone ample m ≡ o → There m (lookupAlone m a)
+    go (ended r) e = rw e (nobody-there m)
     go (finished x) e = declared (declares x a) refl
       where
-        declared : (b : Bool) → declares x a ≡ b → take (length (lookupAlone m a .name)) (drop (lookupAlone m a .from) m) ≡ lookupAlone m a .name
-        declared true f = lookup-part-alone m x a e (subst T (sym f) tt) .part
-        declared false f = rw (e, f)
+        declared : (b : Bool) → declares x a ≡ b → There m (lookupAlone m a)
+        declared true f = stands-there 1 m _ (lookup-part-alone m x a e (subst T (sym f) tt))
+        declared false f = rw (e, f) (nobody-there m)
 
 module _ (m : List ℕ) (a : ℕ) (f : Found) (is-found : f ≡ foundAlone m a) where
   pub part-name-alone : (rest r : List ℕ) → rest ≡ drop (f .from) m → r ≡ take (f .length) rest → r ≡ lookupAlone m a .name
   unfolding foundAlone
-  part-name-alone rest r g h = h ∙ rw (g, is-found) (there-alone m a)
+  part-name-alone rest r g h = h ∙ rw (g, is-found) (there-alone m a .part)
+
+  pub part-place-alone : (x rest r : ℕ × ℕ) → rest ≡ placeIn x m (f .from) → r ≡ rest → r ≡ forward x (lookupAlone m a .from)
+  unfolding foundAlone
+  part-place-alone x rest r g h = h ∙ g ∙ rw is-found (place-inside x m _ (there-alone m a .inside))
 
   pub part-number-alone : f .number ≡ lookupNumberAlone m a
   unfolding foundAlone

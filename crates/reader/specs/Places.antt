@@ -1,8 +1,9 @@
 -- Where a signal's name stands, for any bytes.
+use mathlib.Core.List.{List}
 use Prim.Native.Nat.{ℕ, _<_}
 use lib.ListN.{length}
 use Rattle.text.specs.Reading.{Signal, Outcome, Joint}
-use Rattle.text.specs.Lookup.{signalOf, numberOf, signalAlone, numberAlone}
+use Rattle.text.specs.Lookup.{signalOf, numberOf, lookup, lookupNumber, signalAlone, numberAlone, lookupAlone, lookupNumberAlone}
 use Rattle.reader.specs.declared.state.Signals.{Signals}
 use Rattle.reader.specs.State.{Fit}
 use Rattle.reader.specs.declared.Found.{Found}
@@ -16,6 +17,14 @@ foundIn j a = placed (signalOf j a) (numberOf j a)
 
 abbrev pub foundAloneIn : Outcome → ℕ → Found
 foundAloneIn o a = placed (signalAlone o a) (numberAlone o a)
+
+-- ---- with cells enough for any table: so 10 never applies
+
+unfoldable pub found : List ℕ → List ℕ → ℕ → Found
+found m p a = placed (lookup m p a) (lookupNumber m p a)
+
+unfoldable pub foundAlone : List ℕ → ℕ → Found
+foundAlone m a = placed (lookupAlone m a) (lookupNumberAlone m a)
 
 -- A signal that has a number.
 pub record Held (s : Signals) (a : ℕ) : Type 0 where

@@ -13,8 +13,8 @@ mod places;
 mod state;
 mod texts;
 
-pub use places::find_alone_in;
-pub use places::find_in;
+pub use places::find;
+pub use places::find_alone;
 
 // The numbers of the automaton of a text read alone; its cells are in the lent buffer.
 pub enum Alone {

@@ -2,11 +2,11 @@
 ghost use mathlib.Core.Path.{_≡_};
 ghost use mathlib.Core.Bool.{_||_};
 ghost use lib.ListN.{length, getD};
-ghost use Rattle.text.specs.Reading.{readAlone, readBoth, cellsAlone, cellsFirst, cellsSecond};
+ghost use Rattle.text.specs.Reading.{readAlone, readBoth};
 ghost use Rattle.text.specs.Lookup.{nobody};
 ghost use Rattle.signals.specs.Names.{isDeclared};
 ghost use Rattle.reader.specs.State.{signalsOf};
-ghost use Rattle.reader.specs.Places.{placed, foundIn, foundAloneIn, Held};
+ghost use Rattle.reader.specs.Places.{placed, foundIn, foundAloneIn, found, foundAlone, Held};
 use crate::Found;
 use crate::state::Signals;
 use crate::texts;
@@ -48,16 +48,12 @@ fn is_either(a: Automaton, b: Automaton, signal: usize) -> bool
     sets::contains(automaton::declared(a) | automaton::declared(b), signal)
 }
 
-// In two texts, read together into lent cells.
-pub fn find_in<'a>(m: &'a [u8], p: &'a [u8], signal: usize, cm: &mut [u16], cp: &mut [u16]) -> Found
+// Finds the place in two texts, read together into lent cells; what it leaves in them is open.
+fn find_in<'a>(m: &'a [u8], p: &'a [u8], signal: usize, cm: &mut [u16], cp: &mut [u16]) -> Found
     ensures { λ r. ⌜ r ≡ foundIn (readBoth (length (now (cm .entry))) (now (m .entry)) (length (now (cp .entry))) (now (p .entry))) signal ⌝ }
-    ensures { λ r. ⌜ now (cm .exit) ≡ cellsFirst (length (now (cm .entry))) (readBoth (length (now (cm .entry))) (now (m .entry)) (length (now (cp .entry))) (now (p .entry))) ⌝ }
-    ensures { λ r. ⌜ now (cp .exit) ≡ cellsSecond (length (now (cp .entry))) (readBoth (length (now (cm .entry))) (now (m .entry)) (length (now (cp .entry))) (now (p .entry))) ⌝ }
 {
     let told = texts::read_both(m, p, cm, cp);
     if told.refused {
-        automaton::clear(cm);
-        automaton::clear(cp);
         let refusal = told.refusal;
         return nowhere(refusal.number);
     }
@@ -70,14 +66,12 @@ pub fn find_in<'a>(m: &'a [u8], p: &'a [u8], signal: usize, cm: &mut [u16], cp: 
     place_of(m, p, signals, signal)
 }
 
-// In a text that is read alone.
-pub fn find_alone_in(m: &[u8], signal: usize, cells: &mut [u16]) -> Found
+// Finds the place in a text that is read alone.
+fn find_alone_in(m: &[u8], signal: usize, cells: &mut [u16]) -> Found
     ensures { λ r. ⌜ r ≡ foundAloneIn (readAlone (length (now (cells .entry))) (now (m .entry))) signal ⌝ }
-    ensures { λ r. ⌜ now (cells .exit) ≡ cellsAlone (length (now (cells .entry))) (readAlone (length (now (cells .entry))) (now (m .entry))) ⌝ }
 {
     let told = texts::read_one(m, cells);
     if told.refused {
-        automaton::clear(cells);
         let refusal = told.refusal;
         return nowhere(refusal.number);
     }
@@ -87,4 +81,22 @@ pub fn find_alone_in(m: &[u8], signal: usize, cells: &mut [u16]) -> Found
         return nowhere(12);
     }
     place_of(m, m, signals, signal)
+}
+
+// Finds where a signal's name was first declared in two texts that are read together. It reads into cells of its own, enough for any table, so it
+// is lent none and 10 never applies.
+pub fn find<'a>(m: &'a [u8], p: &'a [u8], signal: usize) -> Found
+    ensures { λ r. ⌜ r ≡ found (now (m .entry)) (now (p .entry)) signal ⌝ }
+{
+    let mut cm = [65535u16; 131072];
+    let mut cp = [65535u16; 131072];
+    find_in(m, p, signal, &mut cm, &mut cp)
+}
+
+// Finds where a signal's name was first declared in a text that is read alone, with cells of its own too.
+pub fn find_alone(m: &[u8], signal: usize) -> Found
+    ensures { λ r. ⌜ r ≡ foundAlone (now (m .entry)) signal ⌝ }
+{
+    let mut cells = [65535u16; 131072];
+    find_alone_in(m, signal, &mut cells)
 }

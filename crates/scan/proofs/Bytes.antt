@@ -3,7 +3,7 @@
 use mathlib.Core.Path.{_≡_, refl, sym, ap, _∙_}
 use mathlib.Core.Bool.{Bool, true, false, _&&_}
 use mathlib.Core.List.{List, [], _∷_}
-use Prim.Native.Nat.{ℕ, zero, suc, _+_, _-_, _≤_, _<_}
+use Prim.Native.Nat.{ℕ, zero, suc, _+_, _-_, _≤_, _<_, min}
 use native.Mathlib.Numerals.{add-one}
 use native.Mathlib.Omega.{arith}
 use lib.Dec.{eqb}
@@ -12,6 +12,7 @@ use lib.Seq.{drop-cons, take-all}
 use borrow.Author.Tests.{eq-eqb, ne-eqb}
 use Rattle.text.specs.Fields.{upto, same}
 use Rattle.text.proofs.Split.{upto-le}
+use Rattle.scan.specs.Places.{placeIn}
 
 -- What is left at i is the byte there and what is left after it.
 pub drop-step : (s : List ℕ) (i : ℕ) → i < length s → drop i s ≡ getD s i 0 ∷ drop (i + 1) s
@@ -86,15 +87,22 @@ before-all s at h = sym (take-all at s h)
 pub before-some : (s : List ℕ) (at : ℕ) → take (at - 0) s ≡ take at s
 before-some s at = let z : at - 0 ≡ at = omega arith in rw z
 
-pub after-none : (s : List ℕ) (at : ℕ) → length s ≤ at → take 0 s ≡ drop at s
-after-none s at h = sym (drop-of-length-le s {i = at} h)
-
 -- A part to the end is what is dropped.
 pub after-rest : (s : List ℕ) (at : ℕ) → take (length s - at) (drop at s) ≡ drop at s
 after-rest s at = take-all (length s - at) (drop at s) (omega (arith, length-drop at s))
 
-pub part-none : (s r : List ℕ) (from to : ℕ) → to ≤ from → r ≡ take 0 s → r ≡ take (to - from) (drop from s)
+pub after-none : (s : List ℕ) (at : ℕ) → length s < at → take (length s - length s) (drop (length s) s) ≡ drop at s
+after-none s at h = after-rest s (length s) ∙ drop-of-length-le s {i = length s} (omega arith) ∙ sym (drop-of-length-le s {i = at} (omega arith))
+
+pub part-none : (s r : List ℕ) (from to : ℕ) → to ≤ from → r ≡ [] → r ≡ take (to - from) (drop from s)
 part-none s r from to h e = let z : to - from ≡ 0 = omega arith in rw z e
 
 pub part-some : (s u r : List ℕ) (from to : ℕ) → u ≡ drop from s → r ≡ take (to - from) u → r ≡ take (to - from) (drop from s)
 part-some s u r from to e f = f ∙ ap (take (to - from)) e
+
+-- The place of a part that begins k bytes on.
+pub before-place : (place : ℕ × ℕ) → (place .0, 0 + place .1) ≡ place
+before-place place = let e : 0 + place .1 ≡ place .1 = omega arith in ap (λ o. (place .0, o)) e
+
+pub after-place : (place : ℕ × ℕ) (s : List ℕ) (at k : ℕ) → k ≡ min at (length s) → (place .0, k + place .1) ≡ placeIn place s at
+after-place place s at k e = let f : k + place .1 ≡ place .1 + min at (length s) = omega arith in ap (λ o. (place .0, o)) f

@@ -1,8 +1,11 @@
-// Scanners that table text is taken apart with (document 01, "Table text"). Each looks at a whole part of a text.
+// Scanners that table text is taken apart with (document 01, "Table text"). Each looks at a whole part of a text. Of a part that is handed back
+// the contract gives the bytes and their place, also where there are none.
 ghost use mathlib.Core.Path.{_≡_};
 ghost use Prim.Native.Nat.{_-_};
 ghost use lib.ListN.{take, drop};
+ghost use denote.Ref.{ptr};
 ghost use Rattle.text.specs.Fields.{upto, same};
+ghost use Rattle.scan.specs.Places.{placeIn};
 
 // How many bytes stand before the first b; all where there is none.
 pub fn find(s: &[u8], b: u8) -> usize
@@ -37,6 +40,7 @@ pub fn equal(a: &[u8], b: &[u8]) -> bool
 // What stands before the byte `at`; all where there is none.
 pub fn before<'a>(s: &'a [u8], at: usize) -> &'a [u8]
     ensures { λ r. ⌜ now r ≡ take at (now (s .entry)) ⌝ }
+    ensures { λ r. ⌜ ptr r ≡ ptr (s .entry) ⌝ }
 {
     if at < s.len() {
         return &s[0..at];
@@ -44,22 +48,26 @@ pub fn before<'a>(s: &'a [u8], at: usize) -> &'a [u8]
     s
 }
 
-// What stands from the byte `at` on; nothing where there is none.
+// What stands from the byte `at` on; the empty part at the end of s where there is none.
 pub fn after<'a>(s: &'a [u8], at: usize) -> &'a [u8]
     ensures { λ r. ⌜ now r ≡ drop at (now (s .entry)) ⌝ }
+    ensures { λ r. ⌜ ptr r ≡ placeIn (ptr (s .entry)) (now (s .entry)) at ⌝ }
 {
-    if s.len() <= at {
-        return &s[0..0];
+    let n = s.len();
+    if n < at {
+        return &s[n..];
     }
     &s[at..]
 }
 
-// What stands from the byte `from` on and before the byte `to`; nothing where there is none.
+// What stands from the byte `from` on and before the byte `to`; where there is none, the empty part at `from`, or at the end of s.
 pub fn part<'a>(s: &'a [u8], from: usize, to: usize) -> &'a [u8]
     ensures { λ r. ⌜ now r ≡ take (to - from) (drop from (now (s .entry))) ⌝ }
+    ensures { λ r. ⌜ ptr r ≡ placeIn (ptr (s .entry)) (now (s .entry)) from ⌝ }
 {
+    let rest = after(s, from);
     if to <= from {
-        return before(s, 0);
+        return before(rest, 0);
     }
-    before(after(s, from), to - from)
+    before(rest, to - from)
 }

@@ -12,8 +12,8 @@ use Rattle.signals.specs.declared.Name.{Name}
 abbrev pub isDeclared : Automaton → ℕ → Bool
 isDeclared h a = declared (table h []) a
 
--- The text of a number.
-abbrev pub textOf : List ℕ → List ℕ → ℕ → List ℕ
+-- Of the text of a number, out of two: its bytes, or its place in memory.
+abbrev pub textOf : {A : Type 0} → A → A → ℕ → A
 textOf m p text = cond (eqb text 2) p m
 
 -- The bytes of a name.

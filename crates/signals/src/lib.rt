@@ -1,5 +1,7 @@
 // Signals of two texts: whether an automaton has one, and its name as a part of one of the texts.
 ghost use mathlib.Core.Path.{_≡_};
+ghost use denote.Ref.{ptr};
+ghost use Rattle.scan.specs.Places.{placeIn};
 ghost use Rattle.signals.specs.Names.{isDeclared, textOf, nameAt};
 use theory::Automaton;
 
@@ -18,16 +20,18 @@ pub fn is_declared(header: Automaton, signal: usize) -> bool
     sets::contains(automaton::declared(header), signal)
 }
 
-// The text of a number.
+// Hands back the text of a number.
 pub fn text_of<'a>(m: &'a [u8], p: &'a [u8], text: u32) -> &'a [u8]
     ensures { λ r. ⌜ now r ≡ textOf (now (m .entry)) (now (p .entry)) text ⌝ }
+    ensures { λ r. ⌜ ptr r ≡ textOf (ptr (m .entry)) (ptr (p .entry)) text ⌝ }
 {
     if text == 2 { p } else { m }
 }
 
-// The bytes of a name.
+// Hands back a name's bytes, where they stand in its text.
 pub fn bytes_of<'a>(m: &'a [u8], p: &'a [u8], name: Name) -> &'a [u8]
     ensures { λ r. ⌜ now r ≡ nameAt (now (m .entry)) (now (p .entry)) name ⌝ }
+    ensures { λ r. ⌜ ptr r ≡ placeIn (textOf (ptr (m .entry)) (ptr (p .entry)) (name .text)) (textOf (now (m .entry)) (now (p .entry)) (name .text)) (name .from) ⌝ }
 {
     let from = scan::after(text_of(m, p, name.text as u32), name.from as usize);
     scan::before(from, name.length as usize)

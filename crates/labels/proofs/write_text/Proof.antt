@@ -150,7 +150,7 @@ returns c =
     let n3 = n4 .before in
     let n2 = n3 .before in
     let n1 = n2 .before in
-    written-named _ _ _ _ _ _ _ _ _ _ _ _ _ _ _ _ _ _ _ _ _ _ _ _ _ _ _ _ _ _ _ _ _ _ (n1 .name .ensures) (n2 .name2 .ensures) (n3 .name3 .ensures) (n4 .name4 .ensures) (n5 .name5 .ensures) (n6 .name6 .ensures) (n7 .name7 .ensures) (n8 .name8 .ensures) (n9 .name9 .ensures) (n10 .name10 .ensures) (n11 .name11 .ensures) (n12 .name12 .ensures) (n13 .name13 .ensures) (n14 .name14 .ensures) (n15 .name15 .ensures) (n16 .name16 .ensures) (n17 .name17 .ensures) (n18 .name18 .ensures) (n19 .name19 .ensures) (n20 .name20 .ensures) (n21 .name21 .ensures) (n22 .name22 .ensures) (n23 .name23 .ensures) (n24 .name24 .ensures) (n25 .name25 .ensures) (n26 .name26 .ensures) (n27 .name27 .ensures) (n28 .name28 .ensures) (n29 .name29 .ensures) (n30 .name30 .ensures) (n31 .name31 .ensures) (n32 .name32 .ensures) _ _ _ _ (w .write .ensures)
+    written-named _ _ _ _ _ _ _ _ _ _ _ _ _ _ _ _ _ _ _ _ _ _ _ _ _ _ _ _ _ _ _ _ _ _ (n1 .name .ensures .0) (n2 .name2 .ensures .0) (n3 .name3 .ensures .0) (n4 .name4 .ensures .0) (n5 .name5 .ensures .0) (n6 .name6 .ensures .0) (n7 .name7 .ensures .0) (n8 .name8 .ensures .0) (n9 .name9 .ensures .0) (n10 .name10 .ensures .0) (n11 .name11 .ensures .0) (n12 .name12 .ensures .0) (n13 .name13 .ensures .0) (n14 .name14 .ensures .0) (n15 .name15 .ensures .0) (n16 .name16 .ensures .0) (n17 .name17 .ensures .0) (n18 .name18 .ensures .0) (n19 .name19 .ensures .0) (n20 .name20 .ensures .0) (n21 .name21 .ensures .0) (n22 .name22 .ensures .0) (n23 .name23 .ensures .0) (n24 .name24 .ensures .0) (n25 .name25 .ensures .0) (n26 .name26 .ensures .0) (n27 .name27 .ensures .0) (n28 .name28 .ensures .0) (n29 .name29 .ensures .0) (n30 .name30 .ensures .0) (n31 .name31 .ensures .0) (n32 .name32 .ensures .0) _ _ _ _ (w .write .ensures)
 
 pub write-text-spec : {M : Type 1} → statement M
 write-text-spec =

@@ -49,29 +49,29 @@ enum-told-3 c = search needs
 returns-2 : tie.Need-returns-2
 returns-2 c =
     let d = c .before .before .before .before .before in
-    line-table _ _ _ (d .before .before .find .ensures) (omega arith) _ _ (d .after .ensures)
-    (c .before .before .before .before .before2 .ensures) _ (c .before .before .before .kind-of .ensures) (c .before .enum-told .given .1) _
+    line-table _ _ _ (d .before .before .find .ensures) (omega arith) _ _ (d .after .ensures .0)
+    (c .before .before .before .before .before2 .ensures .0) _ (c .before .before .before .kind-of .ensures) (c .before .enum-told .given .1) _
     (c .table-line .ensures)
 
 returns-3 : tie.Need-returns-3
 returns-3 c =
     let d = c .before .before .before .before .before .before in
-    line-declaration _ _ _ (d .before .before .find .ensures) (omega arith) _ _ (d .after .ensures)
-    (c .before .before .before .before .before .before2 .ensures) _ (c .before .before .before .before .kind-of .ensures) _
+    line-declaration _ _ _ (d .before .before .find .ensures) (omega arith) _ _ (d .after .ensures .0)
+    (c .before .before .before .before .before .before2 .ensures .0) _ (c .before .before .before .before .kind-of .ensures) _
     (c .before .before .role .given .1) _ (c .declaration-line .ensures)
 
 returns-4 : tie.Need-returns-4
 returns-4 c =
     let d = c .before .before .before .before .before in
-    line-step _ _ _ (d .before .before .find .ensures) (omega arith) _ _ (d .after .ensures)
-    (c .before .before .before .before .before2 .ensures) _ (c .before .before .before .kind-of .ensures) (c .before .enum-told2 .given .1)
+    line-step _ _ _ (d .before .before .find .ensures) (omega arith) _ _ (d .after .ensures .0)
+    (c .before .before .before .before .before2 .ensures .0) _ (c .before .before .before .kind-of .ensures) (c .before .enum-told2 .given .1)
     _ (c .step-line .ensures)
 
 returns-5 : tie.Need-returns-5
 returns-5 c =
     let d = c .before .before .before .before in
-    line-unknown _ _ _ (d .before .before .find .ensures) (omega arith) _ _ (d .after .ensures)
-    (c .before .before .before .before2 .ensures) _ (c .before .before .kind-of .ensures) (c .enum-told3 .given .1)
+    line-unknown _ _ _ (d .before .before .find .ensures) (omega arith) _ _ (d .after .ensures .0)
+    (c .before .before .before .before2 .ensures .0) _ (c .before .before .kind-of .ensures) (c .enum-told3 .given .1)
 
 pub says-spec : {M : Type 1} → statement M
 says-spec =

@@ -26,7 +26,7 @@ enum-told c = search needs
 returns : tie.Need-returns
 returns c =
     let a = c .before .before .before .before .before .args in
-    step-other (now (a .line)) (a .at) _ _ (c .before .before .before .after .ensures) _ (c .before .before .three-fields .ensures)
+    step-other (now (a .line)) (a .at) _ _ (c .before .before .before .after .ensures .0) _ (c .before .before .three-fields .ensures)
     (c .enum-told .given .1)
 
 before-requires : tie.Need-before-requires
@@ -69,9 +69,9 @@ returns-2 : tie.Need-returns-2
 returns-2 c =
     let j = c .before .before .before in
     let k = j .before .before .before .before .before in
-    step-good _ _ _ _ (k .before .before .before .before .after .ensures) _ (k .before .before .before .three-fields .ensures) _ _
+    step-good _ _ _ _ (k .before .before .before .before .after .ensures .0) _ (k .before .before .before .three-fields .ensures) _ _
     (k .before .first .given .1) _ _ _
-    (j .before .before .before .before .before2 .ensures) (j .before .before .before .part .ensures) (j .before .after2 .ensures) _
+    (j .before .before .before .before .before2 .ensures .0) (j .before .before .before .part .ensures .0) (j .before .after2 .ensures .0) _
     (j .before .before .takes-step .ensures) _ (j .judge .ensures) _ _ (c .before .from .given .1)
 
 returns-3 : tie.Need-returns-3
@@ -79,9 +79,9 @@ returns-3 c =
     let j = c .before .before .before in
     let k = j .before .before .before .before .before in
     let a = k .before .before .before .before .before .before .args in
-    step-bad (now (a .line)) (a .at) _ _ (k .before .before .before .before .after .ensures) _
+    step-bad (now (a .line)) (a .at) _ _ (k .before .before .before .before .after .ensures .0) _
     (k .before .before .before .three-fields .ensures) _ _ (k .before .first .given .1) _ _ _
-    (j .before .before .before .before .before2 .ensures) (j .before .before .before .part .ensures) (j .before .after2 .ensures) _
+    (j .before .before .before .before .before2 .ensures .0) (j .before .before .before .part .ensures .0) (j .before .after2 .ensures .0) _
     (j .before .before .takes-step .ensures) _ (j .judge .ensures) _ (c .before .number .given .1)
 
 pub step-line-spec : {M : Type 1} → statement M

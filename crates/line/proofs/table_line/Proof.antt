@@ -55,7 +55,7 @@ returns-2 c =
     let j = c .before .before .before in
     let k = j .before .before .before .before .before in
     table-good _ _ _ (k .before .before .before .three-fields .ensures) _ _ (k .before .first .given .1) _ _ _
-    (j .before .before .before .before .before2 .ensures) (j .before .before .before .part .ensures) (j .before .after .ensures) _
+    (j .before .before .before .before .before2 .ensures .0) (j .before .before .before .part .ensures .0) (j .before .after .ensures .0) _
     (j .before .before .takes-table .ensures) _ (j .judge .ensures) _ _ (c .before .states .given .1)
 
 returns-3 : tie.Need-returns-3
@@ -63,7 +63,7 @@ returns-3 c =
     let j = c .before .before .before in
     let k = j .before .before .before .before .before in
     table-bad _ _ _ (k .before .before .before .three-fields .ensures) _ _ (k .before .first .given .1) _ _ _
-    (j .before .before .before .before .before2 .ensures) (j .before .before .before .part .ensures) (j .before .after .ensures) _
+    (j .before .before .before .before .before2 .ensures .0) (j .before .before .before .part .ensures .0) (j .before .after .ensures .0) _
     (j .before .before .takes-table .ensures) _ (j .judge .ensures) _ (c .before .number .given .1)
 
 pub table-line-spec : {M : Type 1} → statement M

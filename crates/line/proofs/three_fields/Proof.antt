@@ -21,7 +21,7 @@ find-requires-2 c κs = search needs
 
 returns-2 : tie.Need-returns-2
 returns-2 c =
-    cut-two _ _ (c .before .before .before .before .find .ensures) (omega arith) _ (c .before .before .after .ensures) _
+    cut-two _ _ (c .before .before .before .before .find .ensures) (omega arith) _ (c .before .before .after .ensures .0) _
     (c .before .find2 .ensures) (omega arith)
 
 add-after-2 : tie.Need-add-after-2
@@ -36,9 +36,9 @@ find-requires-3 c κs = search needs
 returns-3 : tie.Need-returns-3
 returns-3 c =
     let d = c .before .before .before in
-    cut-more _ _ (d .before .before .before .before .find .ensures) (omega arith) _ (d .before .before .after .ensures) _
+    cut-more _ _ (d .before .before .before .before .find .ensures) (omega arith) _ (d .before .before .after .ensures .0) _
     (d .before .find2 .ensures)
-    (omega arith) _ (c .before .before .after2 .ensures) _ (c .before .find3 .ensures) (omega arith)
+    (omega arith) _ (c .before .before .after2 .ensures .0) _ (c .before .find3 .ensures) (omega arith)
 
 add-t6 : tie.Need-add-t6
 add-t6 c = search needs
@@ -49,9 +49,9 @@ add-t8 c = search needs
 returns-4 : tie.Need-returns-4
 returns-4 c =
     let d = c .before .before .before in
-    cut-three _ _ (d .before .before .before .before .find .ensures) (omega arith) _ (d .before .before .after .ensures) _
+    cut-three _ _ (d .before .before .before .before .find .ensures) (omega arith) _ (d .before .before .after .ensures .0) _
     (d .before .find2 .ensures)
-    (omega arith) _ (c .before .before .after2 .ensures) _ (c .before .find3 .ensures) (omega arith)
+    (omega arith) _ (c .before .before .after2 .ensures .0) _ (c .before .find3 .ensures) (omega arith)
 
 pub three-fields-spec : {M : Type 1} → statement M
 three-fields-spec =

@@ -1,4 +1,4 @@
-use Rattle.lookup.proofs.Parts.{part-name}
+use Rattle.lookup.proofs.Parts.{part-name, part-place}
 use borrow.Author.Needs.{needs}
 use Rattle.lookup.proofs.name.Statement.{statement}
 use Rattle.lookup.proofs.name.Tie as tie
@@ -16,7 +16,7 @@ before-requires : tie.Need-before-requires
 before-requires c κs = search needs
 
 returns : tie.Need-returns
-returns c = search (part-name, needs)
+returns c = (search (part-name, needs), search (part-place, needs))
 
 pub name-spec : {M : Type 1} → statement M
 name-spec =

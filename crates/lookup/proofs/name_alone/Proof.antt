@@ -1,4 +1,4 @@
-use Rattle.lookup.proofs.Parts.{part-name-alone}
+use Rattle.lookup.proofs.Parts.{part-name-alone, part-place-alone}
 use borrow.Author.Needs.{needs}
 use Rattle.lookup.proofs.name_alone.Statement.{statement}
 use Rattle.lookup.proofs.name_alone.Tie as tie
@@ -13,7 +13,7 @@ before-requires : tie.Need-before-requires
 before-requires c κs = search needs
 
 returns : tie.Need-returns
-returns c = search (part-name-alone, needs)
+returns c = (search (part-name-alone, needs), search (part-place-alone, needs))
 
 pub name-alone-spec : {M : Type 1} → statement M
 name-alone-spec = tie.close (tie.spec find-alone-requires after-requires before-requires returns)

@@ -76,8 +76,8 @@ returns-3 c =
     let q = f .before .before .before .before .before .before in
     let s = q .before .before .before in
     let e = f .report .ensures in (
-      both-read _ _ _ _ _ _ _ _ _ _ _ _ _ (s .before .before .before .first .given .1) (s .second .given .1) _ _ (q .before .before2 .ensures)
-          (q .before3 .ensures) _ _ _ _ (e .0),
+      both-read _ _ _ _ _ _ _ _ _ _ _ _ _ (s .before .before .before .first .given .1) (s .second .given .1) _ _ (q .before .before2 .ensures .0)
+          (q .before3 .ensures .0) _ _ _ _ (e .0),
       e .1,
     )
 

@@ -1,6 +1,7 @@
 use native.Mathlib.Omega.{arith}
-use denote.Ref.{now}
-use Rattle.scan.proofs.Bytes.{after-none, after-rest}
+use lib.ListN.{length}
+use denote.Ref.{now, ptr}
+use Rattle.scan.proofs.Bytes.{after-none, after-rest, after-place}
 use borrow.Author.Needs.{needs}
 use Rattle.scan.proofs.after.Statement.{statement}
 use Rattle.scan.proofs.after.Tie as tie
@@ -15,7 +16,9 @@ part-result-end : tie.Need-part-result-end
 part-result-end c = search needs
 
 returns : tie.Need-returns
-returns c = let a = c .before .before .args in after-none (now (a .s)) (a .at) (omega arith)
+returns c =
+    let a = c .before .before .args in
+    (after-none (now (a .s)) (a .at) (omega arith), after-place (ptr (a .s)) (now (a .s)) (a .at) (length (now (a .s))) (omega arith))
 
 sub-result-2 : tie.Need-sub-result-2
 sub-result-2 c = search needs
@@ -27,7 +30,8 @@ part-result-end-2 : tie.Need-part-result-end-2
 part-result-end-2 c = search needs
 
 returns-2 : tie.Need-returns-2
-returns-2 c = let a = c .before .before .args in after-rest (now (a .s)) (a .at)
+returns-2 c =
+    let a = c .before .before .args in (after-rest (now (a .s)) (a .at), after-place (ptr (a .s)) (now (a .s)) (a .at) (a .at) (omega arith))
 
 pub after-spec : {M : Type 1} → statement M
 after-spec =

@@ -1,4 +1,4 @@
-use Rattle.signals.proofs.Names.{name-bytes}
+use Rattle.signals.proofs.Names.{name-bytes, name-place}
 use borrow.Author.Needs.{needs}
 use Rattle.signals.proofs.bytes_of.Statement.{statement}
 use Rattle.signals.proofs.bytes_of.Tie as tie
@@ -22,7 +22,7 @@ before-requires : tie.Need-before-requires
 before-requires c κs = search needs
 
 returns : tie.Need-returns
-returns c = search (name-bytes, needs)
+returns c = (search (name-bytes, needs), search (name-place, needs))
 
 pub bytes-of-spec : {M : Type 1} → statement M
 bytes-of-spec =

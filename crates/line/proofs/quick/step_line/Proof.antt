@@ -25,8 +25,12 @@ whole : (c : tie.After-known-told3)
 whole c =
     let d = c .before .before .before .before .before .before .before .before .before .before in
     let e = c .before .before .before .before .before in
-    step-first _ _ _ (d .before .before .before .before .before .before .before .before .before2 .ensures) _ (d .before .before .before .before .before .before .equal .ensures) (d .before .before .before .before .before .if1 .left) (d .before .before .before .before .after .ensures) _ _ (first d) _
-    (e .before .before .before .before .after2 .ensures) _ (second e) _ (c .before .before .before .before .after3 .ensures) _ _ (third c)
+    step-first _ _ _ (d .before .before .before .before .before .before .before .before .before2 .ensures .0) _ (d .before .before .before .before .before .before .equal .ensures) (d .before .before .before .before .before .if1 .left) (d .before .before .before .before .after .ensures .0) _ _ (first d) _
+    (e .before .before .before .before .after2 .ensures .0) _ (second e) _ (c .before .before .before .before .after3 .ensures .0) _ _ (third c)
+
+-- What is known of s at the start; it stands too far back for `omega` to find it.
+abbrev start : (c : tie.After-known-told3) → tie.After-shared-slice-known
+start c = c .before .before .before .before .before .before .before .before .before .before .before .before .before .before .before .before .before .before .before
 
 before-requires : tie.Need-before-requires
 before-requires c κs = search needs
@@ -92,25 +96,25 @@ returns-4 : tie.Need-returns-4
 returns-4 c = search needs
 
 add-t17 : tie.Need-add-t17
-add-t17 c = let q = whole c in omega (arith, q .within)
+add-t17 c = let q = whole c in omega (arith, q .within, start c)
 
 add-t20 : tie.Need-add-t20
-add-t20 c = let q = whole c in omega (arith, q .within)
+add-t20 c = let q = whole c in omega (arith, q .within, start c)
 
 add-t21 : tie.Need-add-t21
-add-t21 c = let q = whole c in omega (arith, q .within)
+add-t21 c = let q = whole c in omega (arith, q .within, start c)
 
 add-t22 : tie.Need-add-t22
-add-t22 c = let q = whole c in omega (arith, q .within)
+add-t22 c = let q = whole c in omega (arith, q .within, start c)
 
 add-t23 : tie.Need-add-t23
-add-t23 c = let q = whole c in omega (arith, q .within)
+add-t23 c = let q = whole c in omega (arith, q .within, start c)
 
 add-t24 : tie.Need-add-t24
-add-t24 c = let q = whole c in omega (arith, q .within)
+add-t24 c = let q = whole c in omega (arith, q .within, start c)
 
 add-t25 : tie.Need-add-t25
-add-t25 c = let q = whole c in omega (arith, q .within)
+add-t25 c = let q = whole c in omega (arith, q .within, start c)
 
 returns-5 : tie.Need-returns-5
 returns-5 c = whole c

@@ -21,7 +21,7 @@ add-end : tie.Need-add-end
 add-end c = search needs
 
 returns : tie.Need-returns
-returns c = let a = c .before .before .before .before .before .before .before .before .before .args in unlike-length (now (a .m)) (now (a .p)) (a .name) _ (c .before .before .before .before .text-of .ensures) (omega arith) (now (a .wanted)) (omega arith)
+returns c = let a = c .before .before .before .before .before .before .before .before .before .args in unlike-length (now (a .m)) (now (a .p)) (a .name) _ (c .before .before .before .before .text-of .ensures .0) (omega arith) (now (a .wanted)) (omega arith)
 
 sub-if4 : tie.Need-sub-if4
 sub-if4 c = search needs
@@ -37,7 +37,7 @@ shared-slice-read-if4-2 c = search needs
 
 returns-2 : tie.Need-returns-2
 returns-2 c = let a = c .before .before .before .before .before .before .before .before .before .before .before .before .before .args in
-    unlike-last (now (a .m)) (now (a .p)) (a .name) _ (c .before .before .before .before .before .before .before .before .text-of .ensures) (omega arith) (now (a .wanted)) (omega arith) (omega arith) (c .if4 .taken)
+    unlike-last (now (a .m)) (now (a .p)) (a .name) _ (c .before .before .before .before .before .before .before .before .text-of .ensures .0) (omega arith) (now (a .wanted)) (omega arith) (omega arith) (c .if4 .taken)
 
 bytes-of-requires : tie.Need-bytes-of-requires
 bytes-of-requires c κs = search needs

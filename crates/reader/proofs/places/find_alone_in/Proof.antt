@@ -1,4 +1,3 @@
-use Rattle.reader.proofs.Replies.{alone-blank, alone-cells}
 use Rattle.reader.proofs.Finding.{alone-found-refused, alone-undeclared, held-alone, alone-there}
 use borrow.Author.Needs.{needs}
 use Rattle.reader.proofs.places.find_alone_in.Statement.{statement}
@@ -7,9 +6,6 @@ use Rattle.reader.proofs.places.find_alone_in.Tie as tie
 read-one-requires : tie.Need-read-one-requires
 read-one-requires c κs = search needs
 
-clear-requires : tie.Need-clear-requires
-clear-requires c κs = search needs
-
 nowhere-requires : tie.Need-nowhere-requires
 nowhere-requires c κs = search needs
 
@@ -17,7 +13,7 @@ same-length : tie.Need-same-length
 same-length c = search needs
 
 returns : tie.Need-returns
-returns c = (search (alone-found-refused, needs), search (alone-blank, needs))
+returns c = search (alone-found-refused, needs)
 
 is-declared-requires : tie.Need-is-declared-requires
 is-declared-requires c κs = search needs
@@ -29,7 +25,7 @@ same-length-2 : tie.Need-same-length-2
 same-length-2 c = search needs
 
 returns-2 : tie.Need-returns-2
-returns-2 c = (search (alone-undeclared, needs), search (alone-cells, needs))
+returns-2 c = search (alone-undeclared, needs)
 
 place-of-requires : tie.Need-place-of-requires
 place-of-requires c κs = search (held-alone, needs)
@@ -38,14 +34,13 @@ same-length-3 : tie.Need-same-length-3
 same-length-3 c = search needs
 
 returns-3 : tie.Need-returns-3
-returns-3 c = (search (alone-there, needs), search (alone-cells, needs))
+returns-3 c = search (alone-there, needs)
 
 pub find-alone-in-spec : {M : Type 1} → statement M
 find-alone-in-spec =
     tie.close
     (tie.spec
     read-one-requires
-    clear-requires
     nowhere-requires
     same-length
     returns

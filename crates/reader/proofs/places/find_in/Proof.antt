@@ -1,4 +1,3 @@
-use Rattle.reader.proofs.Replies.{first-blank, second-blank, first-cells, second-cells}
 use Rattle.reader.proofs.Finding.{found-refused, found-undeclared, held-both, found-there}
 use borrow.Author.Needs.{needs}
 use Rattle.reader.proofs.places.find_in.Statement.{statement}
@@ -6,12 +5,6 @@ use Rattle.reader.proofs.places.find_in.Tie as tie
 
 read-both-requires : tie.Need-read-both-requires
 read-both-requires c κs = search needs
-
-clear-requires : tie.Need-clear-requires
-clear-requires c κs = search needs
-
-clear-requires-2 : tie.Need-clear-requires-2
-clear-requires-2 c κs = search needs
 
 nowhere-requires : tie.Need-nowhere-requires
 nowhere-requires c κs = search needs
@@ -23,7 +16,7 @@ same-length-2 : tie.Need-same-length-2
 same-length-2 c = search needs
 
 returns : tie.Need-returns
-returns c = (search (found-refused, needs), (search (first-blank, needs), search (second-blank, needs)))
+returns c = search (found-refused, needs)
 
 is-either-requires : tie.Need-is-either-requires
 is-either-requires c κs = search needs
@@ -38,7 +31,7 @@ same-length-4 : tie.Need-same-length-4
 same-length-4 c = search needs
 
 returns-2 : tie.Need-returns-2
-returns-2 c = (search (found-undeclared, needs), (search (first-cells, needs), search (second-cells, needs)))
+returns-2 c = search (found-undeclared, needs)
 
 place-of-requires : tie.Need-place-of-requires
 place-of-requires c κs = search (held-both, needs)
@@ -50,15 +43,13 @@ same-length-6 : tie.Need-same-length-6
 same-length-6 c = search needs
 
 returns-3 : tie.Need-returns-3
-returns-3 c = (search (found-there, needs), (search (first-cells, needs), search (second-cells, needs)))
+returns-3 c = search (found-there, needs)
 
 pub find-in-spec : {M : Type 1} → statement M
 find-in-spec =
     tie.close
     (tie.spec
     read-both-requires
-    clear-requires
-    clear-requires-2
     nowhere-requires
     same-length
     same-length-2

@@ -20,7 +20,7 @@ cast-t13 : tie.Need-cast-t13
 cast-t13 c = search needs
 
 returns : tie.Need-returns
-returns c = place-held _ _ _ _ (search needs) _ _ refl _ (c .before .bytes-of .ensures)
+returns c = place-held _ _ _ _ (search needs) _ _ refl _ (c .before .bytes-of .ensures .0)
 
 pub place-of-spec : {M : Type 1} → statement M
 place-of-spec =

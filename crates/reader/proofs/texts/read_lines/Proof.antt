@@ -21,7 +21,7 @@ abbrev μ-loop : tie.MeasureT-loop
 
 -- A line that is taken ends in the text.
 ends : (c : tie.After-known-told Inv-loop μ-loop) → c .before .before .before .before .before .before .loop .at + c .before .parsed .given .0 .1 .0 < length (now (c .before .before .before .before .before .before .before .before .text-of .result))
-ends c = line-ends _ _ _ (c .before .before .before .before .after .ensures) _ _ (c .before .before .before .parse .ensures) _ _ (c .before .parsed .given .1)
+ends c = line-ends _ _ _ (c .before .before .before .before .after .ensures .0) _ _ (c .before .before .before .parse .ensures) _ _ (c .before .parsed .given .1)
 
 text-of-requires : tie.Need-text-of-requires Inv-loop μ-loop
 text-of-requires c κs = search needs
@@ -55,16 +55,16 @@ same-length c = search needs
 
 returns : tie.Need-returns Inv-loop μ-loop
 returns c = let l = c .before .before .before .before .before .before .before in
-    told-unread _ _ _ _ _ (l .before .fresh .ensures) _ (l .before .before .before .before .before .before .pre .0) _ (l .before .before .text-of .ensures) _ _ _ _ (l .loop .inv .2 .fit) (l .loop .inv .4) (omega arith)
-    _ (c .before .before .before .before .before .after .ensures) _ (c .before .before .before .before .parse .ensures) _ (c .before .before .enum-told .given .1) _ (c .before .refusal-of .ensures) _ (c .refuse .ensures)
+    told-unread _ _ _ _ _ (l .before .fresh .ensures) _ (l .before .before .before .before .before .before .pre .0) _ (l .before .before .text-of .ensures .0) _ _ _ _ (l .loop .inv .2 .fit) (l .loop .inv .4) (omega arith)
+    _ (c .before .before .before .before .before .after .ensures .0) _ (c .before .before .before .before .parse .ensures) _ (c .before .before .enum-told .given .1) _ (c .before .refusal-of .ensures) _ (c .refuse .ensures)
 
 add-end : tie.Need-add-end Inv-loop μ-loop
 add-end c = let h = ends c in omega arith
 
 enter-requires : tie.Need-enter-requires Inv-loop μ-loop
 enter-requires c κs =
-    let t = c .before .before .before .before .before .before .before .before .before .text-of .ensures in
-    (search needs, line-says _ _ _ (c .before .before .before .before .before .after .ensures) _ _ (c .before .before .before .before .parse .ensures) _ _ (c .before .before .parsed .given .1) _ _ _ t _ refl (search needs))
+    let t = c .before .before .before .before .before .before .before .before .before .text-of .ensures .0 in
+    (search needs, line-says _ _ _ (c .before .before .before .before .before .after .ensures .0) _ _ (c .before .before .before .before .parse .ensures) _ _ (c .before .before .parsed .given .1) _ _ _ t _ refl (search needs))
 
 refuse-requires-2 : tie.Need-refuse-requires-2 Inv-loop μ-loop
 refuse-requires-2 c κs = search needs
@@ -74,8 +74,8 @@ same-length-2 c = omega (arith, c .before .before .before .before .before .befor
 
 returns-2 : tie.Need-returns-2 Inv-loop μ-loop
 returns-2 c = let l = c .before .before .before .before .before .before .before .before .before .before .before .before in
-    told-refused _ _ _ _ _ (l .before .fresh .ensures) _ (l .before .before .before .before .before .before .pre .0) _ (l .before .before .text-of .ensures) _ _ _ _ (l .loop .inv .2 .fit) (l .loop .inv .4) (omega (arith, ends (c .before .before .before .before .before .before)))
-    _ (c .before .before .before .before .before .before .before .before .before .before .after .ensures) _ (c .before .before .before .before .before .before .before .before .before .parse .ensures) _ _ (c .before .before .before .before .before .before .before .parsed .given .1) _ refl _ _ (c .before .before .before .before .enter .ensures) (search needs) _ (c .refuse2 .ensures)
+    told-refused _ _ _ _ _ (l .before .fresh .ensures) _ (l .before .before .before .before .before .before .pre .0) _ (l .before .before .text-of .ensures .0) _ _ _ _ (l .loop .inv .2 .fit) (l .loop .inv .4) (omega (arith, ends (c .before .before .before .before .before .before)))
+    _ (c .before .before .before .before .before .before .before .before .before .before .after .ensures .0) _ (c .before .before .before .before .before .before .before .before .before .parse .ensures) _ _ (c .before .before .before .before .before .before .before .parsed .given .1) _ refl _ _ (c .before .before .before .before .enter .ensures) (search needs) _ (c .refuse2 .ensures)
 
 add-at : tie.Need-add-at Inv-loop μ-loop
 add-at c = let h = ends (c .before .before .before .before .before .before) in omega arith
@@ -93,8 +93,8 @@ loop-again c = let l = c .before .before .before .before .before .before .before
       omega arith,
       search needs,
       search needs,
-      told-next _ _ _ _ _ (l .before .fresh .ensures) _ (l .before .before .before .before .before .before .pre .0) _ (l .before .before .text-of .ensures) _ _ _ _ (l .loop .inv .2 .fit) (l .loop .inv .4) (omega arith)
-          _ (c .before .before .before .before .before .before .before .before .before .before .after .ensures) _ (c .before .before .before .before .before .before .before .before .before .parse .ensures) _ _ (c .before .before .before .before .before .before .before .parsed .given .1) _ refl _ _ (c .before .before .before .before .enter .ensures) (search needs),
+      told-next _ _ _ _ _ (l .before .fresh .ensures) _ (l .before .before .before .before .before .before .pre .0) _ (l .before .before .text-of .ensures .0) _ _ _ _ (l .loop .inv .2 .fit) (l .loop .inv .4) (omega arith)
+          _ (c .before .before .before .before .before .before .before .before .before .before .after .ensures .0) _ (c .before .before .before .before .before .before .before .before .before .parse .ensures) _ _ (c .before .before .before .before .before .before .before .parsed .given .1) _ refl _ _ (c .before .before .before .before .enter .ensures) (search needs),
     )
 
 same-length-3 : tie.Need-same-length-3 Inv-loop μ-loop

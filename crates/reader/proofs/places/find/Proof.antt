@@ -1,8 +1,8 @@
 use Rattle.text.specs.Lookup.{lookup, lookupNumber}
-use Rattle.lookup.specs.Places.{found}
+use Rattle.reader.specs.Places.{found}
 use borrow.Author.Needs.{needs}
-use Rattle.lookup.proofs.find.Statement.{statement}
-use Rattle.lookup.proofs.find.Tie as tie
+use Rattle.reader.proofs.places.find.Statement.{statement}
+use Rattle.reader.proofs.places.find.Tie as tie
 
 slice-aggregate-find-in : tie.Need-slice-aggregate-find-in
 slice-aggregate-find-in c = search needs
@@ -15,7 +15,7 @@ find-in-requires c κs = search needs
 
 returns : tie.Need-returns
 unfolding found lookup lookupNumber
-returns c = c .before .before .find-in .ensures .0
+returns c = c .before .before .find-in .ensures
 
 pub find-spec : {M : Type 1} → statement M
 find-spec =
