@@ -91,8 +91,9 @@ before-some s at = let z : at - 0 ≡ at = omega arith in rw z
 pub after-rest : (s : List ℕ) (at : ℕ) → take (length s - at) (drop at s) ≡ drop at s
 after-rest s at = take-all (length s - at) (drop at s) (omega (arith, length-drop at s))
 
-pub after-none : (s : List ℕ) (at : ℕ) → length s < at → take (length s - length s) (drop (length s) s) ≡ drop at s
-after-none s at h = after-rest s (length s) ∙ drop-of-length-le s {i = length s} (omega arith) ∙ sym (drop-of-length-le s {i = at} (omega arith))
+pub after-none : (s r : List ℕ) (at : ℕ) → length s < at → length r ≤ 0 → r ≡ drop at s
+after-none s [] at h k = sym (drop-of-length-le s {i = at} (omega arith))
+after-none s (x ∷ r) at h k = absurd (omega arith)
 
 pub part-none : (s r : List ℕ) (from to : ℕ) → to ≤ from → r ≡ [] → r ≡ take (to - from) (drop from s)
 part-none s r from to h e = let z : to - from ≡ 0 = omega arith in rw z e

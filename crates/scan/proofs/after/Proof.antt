@@ -1,5 +1,6 @@
+use Prim.Native.Nat.{_-_}
 use native.Mathlib.Omega.{arith}
-use lib.ListN.{length}
+use lib.ListN.{length, drop, length-take}
 use denote.Ref.{now, ptr}
 use Rattle.scan.proofs.Bytes.{after-none, after-rest, after-place}
 use borrow.Author.Needs.{needs}
@@ -18,7 +19,8 @@ part-result-end c = search needs
 returns : tie.Need-returns
 returns c =
     let a = c .before .before .args in
-    (after-none (now (a .s)) (a .at) (omega arith), after-place (ptr (a .s)) (now (a .s)) (a .at) (length (now (a .s))) (omega arith))
+    let n = length (now (a .s)) in
+    (after-none (now (a .s)) _ (a .at) (omega arith) (omega (arith, length-take (n - n) (drop n (now (a .s))))), after-place (ptr (a .s)) (now (a .s)) (a .at) n (omega arith))
 
 sub-result-2 : tie.Need-sub-result-2
 sub-result-2 c = search needs
