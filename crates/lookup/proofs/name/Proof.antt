@@ -1,3 +1,4 @@
+-- The part's bytes and its place are two facts, shown apart.
 use Rattle.lookup.proofs.Parts.{part-name, part-place}
 use borrow.Author.Needs.{needs}
 use Rattle.lookup.proofs.name.Statement.{statement}
