@@ -19,7 +19,7 @@ use Rattle.reader.specs.Places.{found, foundAlone}
 
 -- ---- a name stands in its text where the signal says
 
-pub record There (bytes : List ℕ) (s : Signal) : Type 0 where
+record There (bytes : List ℕ) (s : Signal) : Type 0 where
   pub part : take (length (s .name)) (drop (s .from) bytes) ≡ s .name
   pub inside : s .from ≤ length bytes
 

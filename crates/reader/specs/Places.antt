@@ -18,6 +18,11 @@ foundIn j a = placed (signalOf j a) (numberOf j a)
 abbrev pub foundAloneIn : Outcome → ℕ → Found
 foundAloneIn o a = placed (signalAlone o a) (numberAlone o a)
 
+-- A signal that has a number.
+pub record Held (s : Signals) (a : ℕ) : Type 0 where
+  pub fit : Fit s
+  pub below : a < s .count
+
 -- ---- with cells enough for any table: so 10 never applies
 
 unfoldable pub found : List ℕ → List ℕ → ℕ → Found
@@ -25,8 +30,3 @@ found m p a = placed (lookup m p a) (lookupNumber m p a)
 
 unfoldable pub foundAlone : List ℕ → ℕ → Found
 foundAlone m a = placed (lookupAlone m a) (lookupNumberAlone m a)
-
--- A signal that has a number.
-pub record Held (s : Signals) (a : ℕ) : Type 0 where
-  pub fit : Fit s
-  pub below : a < s .count

@@ -1,5 +1,5 @@
-// Scanners that table text is taken apart with (document 01, "Table text"). Each looks at a whole part of a text. Of a part that is handed back
-// the contract gives the bytes and their place, also where there are none.
+// Scanners that table text is taken apart with (document 01, "Table text"). Each looks at a whole part of a text. A part that is handed
+// back is given by its bytes and by its place, an empty one too.
 ghost use mathlib.Core.Path.{_≡_};
 ghost use Prim.Native.Nat.{_-_};
 ghost use lib.ListN.{take, drop};

@@ -28,7 +28,7 @@ pub fn text_of<'a>(m: &'a [u8], p: &'a [u8], text: u32) -> &'a [u8]
     if text == 2 { p } else { m }
 }
 
-// Hands back a name's bytes, where they stand in its text.
+// Hands back a name's bytes where they stand in its text, as far as the text has them.
 pub fn bytes_of<'a>(m: &'a [u8], p: &'a [u8], name: Name) -> &'a [u8]
     ensures { λ r. ⌜ now r ≡ nameAt (now (m .entry)) (now (p .entry)) name ⌝ }
     ensures { λ r. ⌜ ptr r ≡ placeIn (textOf (ptr (m .entry)) (ptr (p .entry)) (name .text)) (textOf (now (m .entry)) (now (p .entry)) (name .text)) (name .from) ⌝ }
