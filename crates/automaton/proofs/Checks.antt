@@ -1,5 +1,5 @@
 -- The replies of the checks, one law for each return.
-use mathlib.Core.Path.{_≡_, sym, ap, _∙_}
+use mathlib.Core.Path.{_≡_, refl, sym, ap, _∙_}
 use mathlib.Core.Bool.{Bool, true, false, not, _&&_, cond, Bool·not-not}
 use mathlib.Core.List.{List}
 use Prim.Native.Nat.{ℕ, _*_, _/_, _%_, _^_, _≤_, _<_}
@@ -19,8 +19,9 @@ use Rattle.theory.proofs.Tests.{or-right}
 use Rattle.theory.proofs.Bounded.{any-cong, any-or}
 use Rattle.theory.proofs.Checks.{orElse, first-append, passed-first}
 use Rattle.theory.proofs.Sets.{member-or}
-use Rattle.faults.specs.Cells.{least, faultAt, flawed}
-use Rattle.faults.proofs.Least.{or-none, least-any}
+use Rattle.faults.specs.declared.Found.{Found}
+use Rattle.faults.specs.declared.Found.the-variants.{Fault, Nothing}
+use Rattle.faults.specs.Cells.{faultAt, firstFault}
 use Rattle.automaton.specs.Cells.{Sized, stepless}
 
 -- ---- the first m checks of a list, then the others
@@ -34,6 +35,18 @@ module _ (m : ℕ) (l : List Check) (k : Checked) (first-part : k ≡ first (tak
 
   pub part-accepted : k ≡ Accepted → first l ≡ first (drop m l)
   part-accepted e = in-parts ∙ rw e
+
+-- ---- what the walks find, as a refusal that names table i
+
+abbrev refusalOf : ℕ → Found → Checked
+refusalOf i (Fault c k) = refuse c i
+refusalOf i Nothing = Accepted
+
+five-or-six : (i : ℕ) (five six : Bool) (x y : ℕ)
+    → cond five (refuse 5 i) (cond six (refuse 6 i) Accepted) ≡ refusalOf i (cond five (Fault 5 x) (cond six (Fault 6 y) Nothing))
+five-or-six i true six x y = refl
+five-or-six i false true x y = refl
+five-or-six i false false x y = refl
 
 module _ (i : ℕ) (a : Automaton) where
   abbrev n : ℕ
@@ -120,32 +133,15 @@ module _ (i : ℕ) (a : Automaton) where
             → any (n * 32) (λ k. ltb (getD cells k 65535) n && not (declared t (k % 32))) ≡ any (n * 32) (faultAt true n d cells)
         undeclared d lists = any-cong (n * 32) _ (faultAt true n d cells) (λ k l. rw (union 0 d (k % 32) lists))
 
-        pub check-sound : (d : ℕ) (b : Bool) → d ≡ bitOr (a .inputs) (a .outputs) → b ≡ not (any (length cells / 32 * 32) (flawed n d cells)) → b ≡ true
-            → Accepted ≡ first (tableChecks i t)
-        unfolding first tableChecks
-        check-sound d b lists told h =
-            let five = faultAt false n d cells in
-            let six = faultAt true n d cells in
-            let (e, f) = or-none (any (n * 32) five) (any (n * 32) six) (sym (any-or (n * 32) five six) ∙ not-true _ (sym (rw whole at told) ∙ h)) in
-            sym (part-accepted 4 (tableChecks i t) k shape fine ∙ rw (e, undeclared d lists, f))
+        module _ (d : ℕ) (f : Found) (lists : d ≡ bitOr (a .inputs) (a .outputs)) (walked : f ≡ firstFault n d cells) where
+          found : first (tableChecks i t) ≡ refusalOf i f
+          unfolding first tableChecks firstFault
+          found =
+              part-accepted 4 (tableChecks i t) k shape fine ∙ rw (undeclared d lists, walked, whole)
+              (five-or-six i (any (n * 32) (faultAt false n d cells)) (any (n * 32) (faultAt true n d cells)) _ _)
 
-        walked : (six : Bool) (d v : ℕ) → v ≡ least (length cells / 32 * 32) (faultAt six n d cells)
-            → any (n * 32) (faultAt six n d cells) ≡ ltb v (length cells)
-        walked six d v e = rw (e, whole, sized .size) (sym (least-any (faultAt six n d cells) (n * 32)))
+          pub check-cells : (c at : ℕ) (x : Checked) → f ≡ Fault c at → x ≡ refuse c i → x ≡ first (tableChecks i t)
+          check-cells c at x h e = e ∙ sym (found ∙ ap (refusalOf i) h)
 
-        module _ (d v : ℕ) (five : v ≡ least (length cells / 32 * 32) (faultAt false n d cells)) where
-          pub check-5 : (x : Checked) → v < length cells → x ≡ refuse 5 i → x ≡ first (tableChecks i t)
-          unfolding first tableChecks
-          check-5 x h e = e ∙ sym (part-accepted 4 (tableChecks i t) k shape fine ∙ rw (walked false d v five, lt-ltb v (length cells) h))
-
-          module _ (sound : length cells ≤ v) (lists : d ≡ bitOr (a .inputs) (a .outputs)) (w : ℕ)
-              (six : w ≡ least (length cells / 32 * 32) (faultAt true n d cells)) where
-            rest : first (tableChecks i t) ≡ cond (ltb w (length cells)) (refuse 6 i) Accepted
-            unfolding first tableChecks
-            rest = part-accepted 4 (tableChecks i t) k shape fine ∙ rw (walked false d v five, le-ltb v (length cells) sound, undeclared d lists, walked true d w six)
-
-            pub check-6 : (x : Checked) → w < length cells → x ≡ refuse 6 i → x ≡ first (tableChecks i t)
-            check-6 x h e = e ∙ sym (rest ∙ rw (lt-ltb w (length cells) h))
-
-            pub check-ok : length cells ≤ w → Accepted ≡ first (tableChecks i t)
-            check-ok h = sym (rest ∙ rw (le-ltb w (length cells) h))
+          pub check-ok : f ≡ Nothing → Accepted ≡ first (tableChecks i t)
+          check-ok h = sym (found ∙ ap (refusalOf i) h)

@@ -10,6 +10,7 @@ ghost use Rattle.theory.specs.Table.{table, member, mirrorHeader};
 ghost use Rattle.theory.specs.Checks.{first, refuse as refused, tableChecks};
 ghost use Rattle.automaton.specs.Replies.{mirrorReply};
 ghost use Rattle.automaton.specs.Cells.{stepless};
+use faults::Found;
 use theory::Automaton;
 use theory::Checked;
 use theory::Refusal;
@@ -78,17 +79,10 @@ pub fn check(a: Automaton, cells: &[u16], number: u32) -> Checked
     let Checked::Accepted = shape else {
         return shape;
     };
-    let acts = declared(a);
-    if faults::is_sound(cells, a.states as u16, acts) {
-        return Checked::Accepted;
+    match faults::find(cells, a.states as u16, declared(a)) {
+        Found::Fault { check, cell: _ } => refuse(check, number),
+        Found::Nothing => Checked::Accepted,
     }
-    if faults::walk(false, cells, a.states, acts) < cells.len() {
-        return refuse(5, number);
-    }
-    if faults::walk(true, cells, a.states, acts) < cells.len() {
-        return refuse(6, number);
-    }
-    Checked::Accepted
 }
 
 // Judges one automaton.

@@ -13,7 +13,7 @@ use Rattle.theory.proofs.Tests.{same-test}
 use Rattle.theory.proofs.Bounded.{at-any}
 use Rattle.faults.specs.Cells.{least}
 
-pub or-none : (b c : Bool) → (b || c) ≡ false → (b ≡ false) × (c ≡ false)
+or-none : (b c : Bool) → (b || c) ≡ false → (b ≡ false) × (c ≡ false)
 or-none true c e = (e, cc)
 or-none false c e = (refl, e)
 
@@ -28,6 +28,15 @@ module _ (f : ℕ → Bool) where
   unfolding least any
   least-any zero = refl
   least-any (suc n) = one-more n (least n f) (any n f) (f n) (least-any n)
+
+  -- None below n passes, said of each.
+  pub none-at : (n : ℕ) → any n f ≡ false → (k : ℕ) → k < n → f k ≡ false
+  none-at n e k h = same-test (λ t. rw e at (at-any n f k h t)) (λ t. absurd t)
+
+  pub none-below : (n : ℕ) → ((k : ℕ) → k < n → f k ≡ false) → any n f ≡ false
+  unfolding any
+  none-below zero all = refl
+  none-below (suc n) all = rw (none-below n (λ k h. all k (omega arith)), all n (omega arith))
 
   -- None below k passes, nor does k: none below k + 1 does.
   pub pass : (k : ℕ) → any k f ≡ false → f k ≡ false → any (k + 1) f ≡ false

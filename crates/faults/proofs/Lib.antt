@@ -1,3 +1,4 @@
 pub mod Least
 pub mod Rows
 pub mod Sound
+pub mod Finds

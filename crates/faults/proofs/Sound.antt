@@ -1,22 +1,23 @@
--- No cell at fault, found at once: the limits of the actions, and the tests of a row.
-use mathlib.Core.Path.{_≡_, refl, sym, _∙_}
+-- Rows without fault, told at once: the limits of the actions, and the test of a row.
+use mathlib.Core.Path.{_≡_, refl, sym, ap₂, _∙_}
 use mathlib.Core.Bool.{Bool, true, false, not, _&&_, _||_, cond}
 use mathlib.Core.List.{List}
-use Prim.Native.Nat.{ℕ, _+_, _*_, _/_, _%_, _^_, _≤_, _<_}
+use Prim.Native.Nat.{ℕ, _+_, _*_, _/_, _%_, _-_, _^_, _<_, min}
 use native.Mathlib.Decide.{ℕ-discrete, decLt}
 use native.Mathlib.Numerals.{add-one}
 use native.Mathlib.Omega.{arith}
 use lib.Arith.{digits-mod}
 use lib.Dec.{eqb, ltb, leb}
 use lib.ListN.{getD, length}
-use borrow.Author.Tests.{eq-eqb, ne-eqb, lt-ltb, le-ltb, le-leb, lt-leb, not-true, not-false}
+use borrow.Author.Tests.{eq-eqb, ne-eqb, lt-ltb, le-ltb, le-leb, lt-leb, leb-false, not-true, not-false}
 use Rattle.theory.specs.Bounded.{any, tabulate}
 use Rattle.theory.specs.Table.{member}
-use Rattle.theory.proofs.Bounded.{any-at, at-any}
+use Rattle.theory.specs.Checks.{stray}
+use Rattle.theory.proofs.Bounded.{length-tabulate}
 use Rattle.theory.proofs.Filled.{filled-of}
-use Rattle.theory.proofs.Tests.{same-test}
-use Rattle.faults.specs.Cells.{fault, flawed, limit}
-use Rattle.faults.proofs.Rows.{within}
+use Rattle.faults.specs.Cells.{fault, faultAt, limit, strayIn, SoundBefore}
+use Rattle.faults.proofs.Least.{none-at, none-below}
+use Rattle.faults.proofs.Rows.{within, sound-same}
 
 -- ---- limit
 
@@ -27,78 +28,78 @@ module _ (n acts a : ℕ) (r : Bool) (known : r ≡ member acts a) where
   pub limit-states : not r ≡ false → n ≡ limit n acts a
   limit-states h = rw (← known, not-false r h)
 
--- ---- fits
+pub limits-many : (n acts : ℕ) (below : List ℕ) → below ≡ tabulate (limit n acts) 0 32 → length below ≡ 32
+limits-many n acts below e = rw e (length-tabulate (limit n acts) 0 32)
 
-pub fits-wrapped : (cell limit x : ℕ) → cell < 2 ^ 16 → x ≡ (cell + 1) % 2 ^ 16 → leb x limit ≡ (eqb cell 65535 || ltb cell limit)
-fits-wrapped cell limit x small e = elim (ℕ-discrete cell 65535) [
-  | yes q ↦ rw (eq-eqb cell 65535 q) (le-leb x limit (let z : x ≡ 0 = omega arith in omega arith))
+-- ---- stray
+
+pub stray-wrapped : (cell limit x : ℕ) → cell < 2 ^ 16 → x ≡ (cell + 1) % 2 ^ 16 → ltb limit x ≡ stray limit cell
+stray-wrapped cell limit x small e = elim (ℕ-discrete cell 65535) [
+  | yes q ↦ rw (eq-eqb cell 65535 q) (le-ltb limit x (let z : x ≡ 0 = omega arith in omega arith))
   | no d ↦
       let z : x ≡ cell + 1 = omega arith in
       rw (ne-eqb cell 65535 d) (elim (decLt cell limit) [
-        | yes l ↦ le-leb x limit (omega arith) ∙ sym (lt-ltb cell limit l)
-        | no g ↦ lt-leb x limit (omega arith) ∙ sym (le-ltb cell limit (omega arith))
+        | yes l ↦ le-ltb limit x (omega arith) ∙ sym (lt-leb limit cell l)
+        | no g ↦ lt-ltb limit x (omega arith) ∙ sym (le-leb limit cell (omega arith))
       ])
 ]
 
--- ---- is_sound
-
--- A cell fits its action's limit exactly if neither check finds fault with it.
-fits-sound : (n acts cell a : ℕ) → n < 2 ^ 16
-    → (eqb cell 65535 || ltb cell (limit n acts a)) ≡ not (fault false n acts cell a || fault true n acts cell a)
-fits-sound n acts cell a few = elim (ℕ-discrete cell 65535) [
-  | yes q ↦ rw (eq-eqb cell 65535 q, le-ltb cell n (omega arith))
-  | no d ↦ rw (ne-eqb cell 65535 d) (go (member acts a))
-]
-  where
-    go : (b : Bool) → ltb cell (cond b n 0) ≡ not (leb n cell || ltb cell n && not b)
-    go true = elim (decLt cell n) [
-      | yes l ↦ rw (lt-ltb cell n l, lt-leb n cell l)
-      | no g ↦ rw (le-ltb cell n (omega arith), le-leb n cell (omega arith))
-    ]
-    go false = elim (decLt cell n) [
-      | yes l ↦ rw (lt-ltb cell n l, lt-leb n cell l) (le-ltb cell 0 (omega arith))
-      | no g ↦ rw (le-leb n cell (omega arith)) (le-ltb cell 0 (omega arith))
-    ]
+-- ---- is_row_faulty
 
 module _ (f : ℕ → Bool) where
-  -- What is at fault among the first is among all.
-  any-more : (k m : ℕ) → k ≤ m → any k f ≡ true → any m f ≡ true
-  any-more k m l e = let (i, h, t) = any-at k f (rw e tt) in same-test (λ u. tt) (λ u. at-any m f i (omega arith) t)
-
-  one-sound : (k : ℕ) (sound r : Bool) → sound ≡ not (any k f) → r ≡ not (f k) → (sound && r) ≡ not (any (k + 1) f)
+  pub row-start : false ≡ any 0 f
   unfolding any
-  one-sound k sound r e g = rw (add-one k, e, g) (neither (any k f) (f k))
-    where
-      neither : (b c : Bool) → (not b && not c) ≡ not (b || c)
-      neither true c = refl
-      neither false c = refl
+  row-start = refl
 
-  pub sound-start : true ≡ not (any 0 f)
+  pub row-on : (a : ℕ) (faulty r : Bool) → faulty ≡ any a f → r ≡ f a → (faulty || r) ≡ any (a + 1) f
   unfolding any
-  sound-start = refl
+  row-on a faulty r e g = rw (add-one a) (ap₂ _||_ e g)
 
-  -- The same bound, written otherwise.
-  pub sound-reach : (k j : ℕ) (sound : Bool) → sound ≡ not (any k f) → k ≡ j → sound ≡ not (any j f)
-  sound-reach k j sound e h = rw (← h) e
+  pub row-end : (a : ℕ) (faulty : Bool) → faulty ≡ any a f → a ≡ 32 → faulty ≡ any 32 f
+  row-end a faulty e h = rw (← h) e
 
-module _ (cells : List ℕ) (n acts count row : ℕ) (rows : count ≡ length cells / 32) where
-  pub sound-on : (a : ℕ) (sound r : Bool) (below : List ℕ) → n < 2 ^ 16 → row < count → a < 32 → below ≡ tabulate (limit n acts) 0 32
-      → sound ≡ not (any (row * 32 + a) (flawed n acts cells))
-      → r ≡ (eqb (getD cells (row * 32 + a) 0) 65535 || ltb (getD cells (row * 32 + a) 0) (getD below a 0))
-      → (sound && r) ≡ not (any (row * 32 + (a + 1)) (flawed n acts cells))
-  sound-on a sound r below small h low limits before reply =
-      sound-reach _ (row * 32 + a + 1) (row * 32 + (a + 1)) (sound && r)
-      (one-sound (flawed n acts cells) (row * 32 + a) sound r before here) (omega arith)
-    where
-      in-row : row * 32 + a < length cells
-      in-row = omega arith
+-- A step below the action's limit is no fault: b says whether the action is in a list.
+low-step : (n cell : ℕ) (b : Bool) → leb (cond b n 0) cell ≡ false → (leb n cell ≡ false) × ((ltb cell n && not b) ≡ false)
+low-step n cell true e = (e, rw (lt-ltb cell n (leb-false n cell e)))
+low-step n cell false e = absurd (omega (arith, leb-false 0 cell e))
 
-      here : r ≡ not (flawed n acts cells (row * 32 + a))
-      here =
-          rw (digits-mod row low, within cells (row * 32 + a) 65535 0 in-row)
-          (reply ∙ rw (filled-of 0 (limit n acts) below 32 limits a low) (fits-sound n acts (getD cells (row * 32 + a) 0) a small))
+-- A cell within its action's limit is at fault by neither check.
+limited : (six : Bool) (n acts cell a : ℕ) → n < 2 ^ 16 → stray (limit n acts a) cell ≡ false → fault six n acts cell a ≡ false
+limited six n acts cell a small e = elim (ℕ-discrete cell 65535) [
+  | yes q ↦ blank six q
+  | no d ↦ filled six d (rw (ne-eqb cell 65535 d) at e)
+]
+  where
+    blank : (six : Bool) → cell ≡ 65535 → fault six n acts cell a ≡ false
+    blank false q = rw (eq-eqb cell 65535 q)
+    blank true q = rw (le-ltb cell n (omega arith))
 
-  pub sound-stop : (a : ℕ) (sound : Bool) → row < count → a ≤ 32 → sound ≡ not (any (row * 32 + a) (flawed n acts cells)) → not sound ≡ true
-      → false ≡ not (any (length cells / 32 * 32) (flawed n acts cells))
-  sound-stop a sound h l e g =
-      rw (any-more (flawed n acts cells) (row * 32 + a) (length cells / 32 * 32) (omega arith) (not-false _ (sym e ∙ not-true sound g)))
+    filled : (six : Bool) → (cell ≡ 65535 → ⊥) → leb (limit n acts a) cell ≡ false → fault six n acts cell a ≡ false
+    filled false d l = rw (ne-eqb cell 65535 d) (low-step n cell (member acts a) l .0)
+    filled true d l = low-step n cell (member acts a) l .1
+
+-- ---- a row that the walk passes over
+
+module _ (cells below : List ℕ) (n acts count row noted : ℕ) (r : Bool) (small : n < 2 ^ 16) (in-rows : row < count) (rows : count ≡ length cells / 32)
+    (limits : below ≡ tabulate (limit n acts) 0 32) (told : r ≡ any 32 (strayIn below cells row)) (fine : not r ≡ true) where
+  row-sound : (six : Bool) (a : ℕ) → a < 32 → faultAt six n acts cells (row * 32 + a) ≡ false
+  row-sound six a low =
+      let in-row : row * 32 + a < length cells = omega arith in
+      let cell : strayIn below cells row a ≡ false = none-at _ 32 (sym told ∙ not-true r fine) a low in
+      rw (digits-mod row low, within cells (row * 32 + a) 65535 0 in-row)
+      (limited six n acts (getD cells (row * 32 + a) 0) a small (rw (filled-of 0 (limit n acts) below 32 limits a low) at cell))
+
+  pub pass-row : (six : Bool) → any (row * 32) (faultAt six n acts cells) ≡ false → any ((row + 1) * 32) (faultAt six n acts cells) ≡ false
+  pass-row six before = none-below _ ((row + 1) * 32) (λ k h. elim (decLt k (row * 32)) [
+    | yes l ↦ none-at _ (row * 32) before k l
+    | no g ↦ let e : k ≡ row * 32 + (k - row * 32) = omega arith in rw e (row-sound six (k - row * 32) (omega arith))
+  ])
+
+  pub pass-sound : SoundBefore n acts cells (min row noted) → SoundBefore n acts cells (min (row + 1) noted)
+  pass-sound s = elim (decLt row noted) [
+    | yes l ↦ sound-same n acts cells (row + 1) (min (row + 1) noted) (omega arith) (record {
+      within = omega arith;
+      sound = λ six. pass-row six (sound-same n acts cells (min row noted) row (omega arith) s .sound six);
+    })
+    | no g ↦ sound-same n acts cells (min row noted) (min (row + 1) noted) (omega arith) s
+  ]

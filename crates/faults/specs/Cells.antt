@@ -1,12 +1,16 @@
 -- Cells at fault, and the first of them.
-use mathlib.Core.Bool.{Bool, true, false, not, _&&_, _||_, cond}
+use mathlib.Core.Path.{_≡_}
+use mathlib.Core.Bool.{Bool, true, false, not, _&&_, cond}
 use mathlib.Core.List.{List}
-use Prim.Native.Nat.{ℕ, zero, suc, _%_}
+use Prim.Native.Nat.{ℕ, zero, suc, _+_, _*_, _/_, _%_, _≤_}
 use lib.Dec.{ltb}
-use lib.ListN.{getD}
+use lib.ListN.{getD, length}
 use Rattle.theory.specs.Bounded.{any}
 use Rattle.theory.specs.Table.{member}
 use Rattle.theory.specs.Checks.{stray}
+use Rattle.faults.specs.declared.Walked.{Walked}
+use Rattle.faults.specs.declared.Found.{Found}
+use Rattle.faults.specs.declared.Found.the-variants.{Fault, Nothing}
 
 -- The least number below n that passes the test; n if none does.
 unfoldable pub least : ℕ → (ℕ → Bool) → ℕ
@@ -22,10 +26,32 @@ fault true n acts cell a = ltb cell n && not (member acts a)
 abbrev pub faultAt : Bool → ℕ → ℕ → List ℕ → ℕ → Bool
 faultAt six n acts cells k = fault six n acts (getD cells k 65535) (k % 32)
 
--- It is by either.
-abbrev pub flawed : ℕ → ℕ → List ℕ → ℕ → Bool
-flawed n acts cells k = faultAt false n acts cells k || faultAt true n acts cells k
+-- How many cells the whole rows of 32 have.
+abbrev pub inRows : List ℕ → ℕ
+inRows cells = length cells / 32 * 32
 
--- What a step for the action is to be below, so that no check finds fault with it.
+-- What the two walks find: the first cell at fault by check 5; where there is none, the first by check 6.
+unfoldable pub firstFault : ℕ → ℕ → List ℕ → Found
+firstFault n acts cells =
+    cond (any (inRows cells) (faultAt false n acts cells)) (Fault 5 (least (inRows cells) (faultAt false n acts cells)))
+    (cond (any (inRows cells) (faultAt true n acts cells)) (Fault 6 (least (inRows cells) (faultAt true n acts cells))) Nothing)
+
+-- ---- within the walks
+
+-- Exclusive upper bound of a step by the action that neither check finds fault with.
 abbrev pub limit : ℕ → ℕ → ℕ → ℕ
 limit n acts a = cond (member acts a) n 0
+
+-- The row's cell for the action is neither 65,535 nor below the action's limit.
+abbrev pub strayIn : List ℕ → List ℕ → ℕ → ℕ → Bool
+strayIn below cells row a = stray (getD below a 0) (getD cells (row * 32 + a) 0)
+
+-- No cell of the rows before this one is at fault, by either check.
+pub record SoundBefore (n acts : ℕ) (cells : List ℕ) (row : ℕ) : Type 0 where
+  pub within : row ≤ length cells / 32
+  pub sound : (six : Bool) → any (row * 32) (faultAt six n acts cells) ≡ false
+
+-- A walk's end: at the first cell at fault; and a row that the next walk may begin at.
+pub record Ended (six : Bool) (n acts : ℕ) (cells : List ℕ) (w : Walked) : Type 0 where
+  pub first : w .at ≡ least (inRows cells) (faultAt six n acts cells)
+  pub before : SoundBefore n acts cells (w .row)

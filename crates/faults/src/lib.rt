@@ -1,48 +1,44 @@
-// Checks 5 and 6 (document 01, "A table"): one walk over the cells, row by row, to the first at fault; and whether there is any, at once.
+// Checks 5 and 6 (document 01, "A table"): a walk over the cells, row by row, to the first at fault; for check 5, then for check 6.
 ghost use mathlib.Core.Path.{_≡_};
-ghost use mathlib.Core.Bool.{not, _||_};
-ghost use Prim.Native.Nat.{_*_, _/_};
-ghost use lib.Dec.{eqb, ltb};
+ghost use Prim.Native.Nat.{_/_, _<_, min};
 ghost use lib.ListN.{length};
 ghost use Rattle.theory.specs.Bounded.{any, tabulate};
-ghost use Rattle.faults.specs.Cells.{fault as faultOf, faultAt, flawed, least, limit as limitOf};
+ghost use Rattle.theory.specs.Checks.{stray as strayOf};
+ghost use Rattle.faults.specs.Cells.{fault as faultOf, limit as limitOf, strayIn, SoundBefore, Ended, firstFault};
+
+// What the walks find: the check that applies, 5 or 6, and the index of the first cell at fault by it.
+pub enum Found {
+    Fault { check: u32, cell: usize },
+    Nothing,
+}
+
+// Where a walk ends: `at` is the index of the first cell at fault, or the number of cells; `row` the first row not passed over, or the number of rows.
+struct Walked {
+    at: usize,
+    row: usize,
+}
+
+// Whether the cell is neither 65,535 nor below the limit: 65,535 and 1 wrap to 0, and one comparison says both.
+fn stray(cell: u16, limit: u16) -> bool
+    ensures { λ r. ⌜ r ≡ strayOf limit cell ⌝ }
+{
+    limit < std::num::wrapping_add_u16(cell, 1)
+}
 
 // Whether a cell is at fault: by check 5, or by check 6 if `six`. `acts` has the actions of both lists.
-fn fault(six: bool, cell: u16, states: usize, acts: u32, action: usize) -> bool
+fn fault(six: bool, cell: u16, states: u16, acts: u32, action: usize) -> bool
     ensures { λ r. ⌜ r ≡ faultOf six states acts cell action ⌝ }
 {
-    let next = cell as usize;
-    if six {
-        if states <= next {
-            return false;
-        }
-        return !sets::contains(acts, action);
+    if !six {
+        return stray(cell, states);
     }
-    if next == 65535 {
+    if states <= cell {
         return false;
     }
-    states <= next
+    !sets::contains(acts, action)
 }
 
-// The index of the first cell at fault in the whole rows of 32 cells, or how many cells these have. Cells beyond the last whole row do not matter.
-pub fn walk(six: bool, cells: &[u16], states: usize, acts: u32) -> usize
-    ensures { λ r. ⌜ r ≡ least (length (now (cells .entry)) / 32 * 32) (faultAt six states acts (now (cells .entry))) ⌝ }
-{
-    let count = cells.len() / 32;
-    let mut at = count * 32;
-    'rows: for row in 0..count {
-        for action in 0..32usize {
-            let k = row * 32 + action;
-            if fault(six, cells[k], states, acts, action) {
-                at = k;
-                break 'rows;
-            }
-        }
-    }
-    at
-}
-
-// What a step for the action is to be below: the number of states, or 0 where the action is in neither list.
+// Exclusive upper bound of a step by the action: the number of states, or 0 where the action is in neither list.
 fn limit(states: u16, acts: u32, action: usize) -> u16
     ensures { λ r. ⌜ r ≡ limitOf states acts action ⌝ }
 {
@@ -62,27 +58,72 @@ fn limits(states: u16, acts: u32) -> [u16; 32]
     below
 }
 
-// Whether the cell is 65,535 or below the limit: 65,535 and 1 wrap to 0, and one comparison says both.
-fn fits(cell: u16, limit: u16) -> bool
-    ensures { λ r. ⌜ r ≡ (eqb cell 65535 || ltb cell limit) ⌝ }
+// Whether a cell of the row is at fault by either check. No test leaves the row, so that the compiler compares many cells at once.
+fn is_row_faulty(cells: &[u16], row: usize, below: &[u16]) -> bool
+    requires { ⌜ row < length (now cells) / 32 ⌝ }
+    requires { ⌜ length (now below) ≡ 32 ⌝ }
+    ensures { λ r. ⌜ r ≡ any 32 (strayIn (now (below .entry)) (now (cells .entry)) row) ⌝ }
 {
-    std::num::wrapping_add_u16(cell, 1) <= limit
+    let mut faulty = false;
+    for action in 0..32usize {
+        faulty = faulty | stray(cells[row * 32 + action], below[action]);
+    }
+    faulty
 }
 
-// Whether no cell of the whole rows is at fault, by either check. No test leaves a row, so that the compiler compares many cells at once.
-pub fn is_sound(cells: &[u16], states: u16, acts: u32) -> bool
-    ensures { λ r. ⌜ r ≡ not (any (length (now (cells .entry)) / 32 * 32) (flawed states acts (now (cells .entry)))) ⌝ }
+fn earlier(row: usize, noted: usize) -> usize
+    ensures { λ r. ⌜ r ≡ min row noted ⌝ }
 {
-    let below = limits(states, acts);
+    if row < noted {
+        return row;
+    }
+    noted
+}
+
+// Walks the whole rows of 32 cells from row `start` on, before which no cell is at fault. A row without fault by either check is passed over at once.
+fn walk(six: bool, cells: &[u16], states: u16, acts: u32, below: &[u16], start: usize) -> Walked
+    requires { ⌜ SoundBefore states acts (now cells) start ⌝ }
+    requires { ⌜ now below ≡ tabulate (limitOf states acts) 0 32 ⌝ }
+    ensures { λ r. ⌜ Ended six states acts (now (cells .entry)) r ⌝ }
+{
     let count = cells.len() / 32;
-    let mut sound = true;
-    for row in 0..count {
-        for action in 0..32usize {
-            sound = sound & fits(cells[row * 32 + action], below[action]);
+    let mut at = count * 32;
+    let mut noted = count;
+    'rows: for row in start..count {
+        if !is_row_faulty(cells, row, below) {
+            continue;
         }
-        if !sound {
-            return false;
+        noted = earlier(row, noted);
+        for action in 0..32usize {
+            let k = row * 32 + action;
+            if fault(six, cells[k], states, acts, action) {
+                at = k;
+                break 'rows;
+            }
         }
     }
-    sound
+    Walked { at, row: noted }
+}
+
+// The first cell at fault in the whole rows of 32 cells, by check 5 if there is one, else by check 6. Cells beyond the last whole row do not matter.
+pub fn find(cells: &[u16], states: u16, acts: u32) -> Found
+    ensures { λ r. ⌜ r ≡ firstFault states acts (now (cells .entry)) ⌝ }
+{
+    let below = limits(states, acts);
+    let count = cells.len() / 32 * 32;
+    let five = walk(false, cells, states, acts, &below, 0);
+    if five.at < count {
+        return Found::Fault {
+            check: 5,
+            cell: five.at,
+        };
+    }
+    let six = walk(true, cells, states, acts, &below, five.row);
+    if six.at < count {
+        return Found::Fault {
+            check: 6,
+            cell: six.at,
+        };
+    }
+    Found::Nothing
 }

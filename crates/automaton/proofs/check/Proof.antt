@@ -1,4 +1,4 @@
-use Rattle.automaton.proofs.Checks.{check-shape, narrow, check-sound, check-5, check-6, check-ok}
+use Rattle.automaton.proofs.Checks.{check-shape, narrow, check-cells, check-ok}
 use borrow.Author.Needs.{needs}
 use Rattle.automaton.proofs.check.Statement.{statement}
 use Rattle.automaton.proofs.check.Tie as tie
@@ -15,38 +15,29 @@ enum-told-2 c = search needs
 returns : tie.Need-returns
 returns c = search (check-shape, needs)
 
+cast-find : tie.Need-cast-find
+cast-find c = record { fits = search (narrow, needs) }
+
 declared-requires : tie.Need-declared-requires
 declared-requires c κs = search needs
 
-cast-is-sound : tie.Need-cast-is-sound
-cast-is-sound c = record { fits = search (narrow, needs) }
+find-requires : tie.Need-find-requires
+find-requires c κs = search needs
 
-is-sound-requires : tie.Need-is-sound-requires
-is-sound-requires c κs = search needs
-
-returns-2 : tie.Need-returns-2
-returns-2 c = search (check-sound, needs)
-
-walk-requires : tie.Need-walk-requires
-walk-requires c κs = search needs
+enum-known-check : tie.Need-enum-known-check
+enum-known-check c = search needs
 
 refuse-requires : tie.Need-refuse-requires
 refuse-requires c κs = search needs
 
+enum-told-3 : tie.Need-enum-told-3
+enum-told-3 c = search needs
+
+returns-2 : tie.Need-returns-2
+returns-2 c = search (check-cells, needs)
+
 returns-3 : tie.Need-returns-3
-returns-3 c = search (check-5, needs)
-
-walk-requires-2 : tie.Need-walk-requires-2
-walk-requires-2 c κs = search needs
-
-refuse-requires-2 : tie.Need-refuse-requires-2
-refuse-requires-2 c κs = search needs
-
-returns-4 : tie.Need-returns-4
-returns-4 c = search (check-6, needs)
-
-returns-5 : tie.Need-returns-5
-returns-5 c = search (check-ok, needs)
+returns-3 c = search (check-ok, needs)
 
 pub check-spec : {M : Type 1} → statement M
 check-spec =
@@ -56,14 +47,11 @@ check-spec =
     enum-told
     enum-told-2
     returns
+    cast-find
     declared-requires
-    cast-is-sound
-    is-sound-requires
-    returns-2
-    walk-requires
+    find-requires
+    enum-known-check
     refuse-requires
-    returns-3
-    walk-requires-2
-    refuse-requires-2
-    returns-4
-    returns-5)
+    enum-told-3
+    returns-2
+    returns-3)
