@@ -2,9 +2,10 @@
 use mathlib.Core.Path.{_≡_, refl, sym, ap, _∙_}
 use mathlib.Core.Bool.{Bool, true, false}
 use mathlib.Core.List.{List}
-use Prim.Native.Nat.{ℕ, _≤_, _<_}
+use Prim.Native.Nat.{ℕ, _/_, _≤_, _<_}
 use native.Mathlib.Omega.{arith}
 use lib.Dec.{ltb}
+use lib.ListN.{length}
 use borrow.Author.Tests.{lt-ltb, le-ltb}
 use Rattle.theory.specs.Bounded.{any}
 use Rattle.faults.specs.declared.Walked.{Walked}
@@ -26,6 +27,13 @@ module _ (n acts : ℕ) (cells : List ℕ) where
     pub find-five : v .at < inRows cells → Fault 5 (v .at) ≡ firstFault n acts cells
     unfolding firstFault
     find-five h = rw (ended false v five ∙ lt-ltb (v .at) (inRows cells) h) (ap (Fault 5) (five .first))
+
+    -- A walk that passed over every row has asked both checks of every cell.
+    pub find-passed : v .row ≡ length cells / 32 → Nothing ≡ firstFault n acts cells
+    unfolding firstFault
+    find-passed h =
+        let none : (six : Bool) → any (inRows cells) (faultAt six n acts cells) ≡ false = λ six. rw h at (five .before .sound six) in
+        rw (none false, none true)
 
     module _ (none : inRows cells ≤ v .at) (w : Walked) (six : Ended true n acts cells w) where
       pub find-six : w .at < inRows cells → Fault 6 (w .at) ≡ firstFault n acts cells

@@ -22,7 +22,7 @@ abbrev pub fault : Bool → ℕ → ℕ → ℕ → ℕ → Bool
 fault false n acts cell a = stray n cell
 fault true n acts cell a = ltb cell n && not (member acts a)
 
--- The cell at k is.
+-- The cell at index k is at fault.
 abbrev pub faultAt : Bool → ℕ → ℕ → List ℕ → ℕ → Bool
 faultAt six n acts cells k = fault six n acts (getD cells k 65535) (k % 32)
 

@@ -48,6 +48,7 @@ fn limit(states: u16, acts: u32, action: usize) -> u16
     states
 }
 
+// The limits of all actions.
 fn limits(states: u16, acts: u32) -> [u16; 32]
     ensures { λ r. ⌜ r ≡ tabulate (limitOf states acts) 0 32 ⌝ }
 {
@@ -71,6 +72,7 @@ fn is_row_faulty(cells: &[u16], row: usize, below: &[u16]) -> bool
     faulty
 }
 
+// The earlier of two rows.
 fn earlier(row: usize, noted: usize) -> usize
     ensures { λ r. ⌜ r ≡ min row noted ⌝ }
 {
@@ -110,16 +112,19 @@ pub fn find(cells: &[u16], states: u16, acts: u32) -> Found
     ensures { λ r. ⌜ r ≡ firstFault states acts (now (cells .entry)) ⌝ }
 {
     let below = limits(states, acts);
-    let count = cells.len() / 32 * 32;
+    let rows = cells.len() / 32;
     let five = walk(false, cells, states, acts, &below, 0);
-    if five.at < count {
+    if five.row == rows {
+        return Found::Nothing;
+    }
+    if five.at < rows * 32 {
         return Found::Fault {
             check: 5,
             cell: five.at,
         };
     }
     let six = walk(true, cells, states, acts, &below, five.row);
-    if six.at < count {
+    if six.at < rows * 32 {
         return Found::Fault {
             check: 6,
             cell: six.at,
