@@ -7,7 +7,7 @@ use native.Mathlib.Omega.{arith}
 use lib.Bits.{bitOr}
 use lib.Dec.{eqb, ltb, eqb→eq, nltb→le, not-T}
 use lib.ListN.{getD, length, take, drop, take-append-drop, length-replicate}
-use borrow.Author.Tests.{eq-eqb, ne-eqb, lt-ltb, le-ltb, le-leb, lt-leb, not-true}
+use borrow.Author.Tests.{eq-eqb, ne-eqb, lt-ltb, le-ltb, le-leb, lt-leb}
 use Rattle.theory.specs.declared.Automaton.{Automaton}
 use Rattle.theory.specs.declared.Refusal.{Refusal}
 use Rattle.theory.specs.declared.Checked.{Checked}
@@ -16,7 +16,7 @@ use Rattle.theory.specs.Bounded.{any}
 use Rattle.theory.specs.Table.{Table, table, member}
 use Rattle.theory.specs.Checks.{Check, first, refuse, declared, tableChecks}
 use Rattle.theory.proofs.Tests.{or-right}
-use Rattle.theory.proofs.Bounded.{any-cong, any-or}
+use Rattle.theory.proofs.Bounded.{any-cong}
 use Rattle.theory.proofs.Checks.{orElse, first-append, passed-first}
 use Rattle.theory.proofs.Sets.{member-or}
 use Rattle.faults.specs.declared.Found.{Found}

@@ -6,24 +6,26 @@ use Prim.Native.Nat.{ℕ, zero, suc, _+_, _*_, _/_, _≤_, _<_}
 use native.Mathlib.Nat.{not-suc-le-zero, le-of-suc-le-suc}
 use native.Mathlib.Omega.{arith}
 use lib.Arith.{digits-mod}
+use lib.Dec.{leb}
 use lib.ListN.{getD, length}
-use borrow.Author.Tests.{lt-ltb, le-ltb, not-true, not-false}
+use borrow.Author.Tests.{eq-eqb, ne-eqb, lt-ltb, le-ltb}
 use Rattle.theory.specs.Bounded.{any}
 use Rattle.theory.specs.Table.{member}
-use Rattle.theory.specs.Checks.{stray}
 use Rattle.faults.specs.Cells.{fault, faultAt, least, SoundBefore}
 use Rattle.faults.proofs.Least.{pass, found, passed, reach}
 
 module _ (six : Bool) (n acts cell a : ℕ) where
-  pub by-five : (r : Bool) → not six ≡ true → r ≡ stray n cell → r ≡ fault six n acts cell a
-  by-five r s e = rw (not-true six s) e
+  pub no-step : six ≡ true → n ≤ cell → false ≡ fault six n acts cell a
+  no-step s h = rw (s, le-ltb cell n h)
 
-  module _ (by-six : not six ≡ false) where
-    pub no-step : n ≤ cell → false ≡ fault six n acts cell a
-    no-step h = rw (not-false six by-six, le-ltb cell n h)
+  pub step : (r : Bool) → six ≡ true → cell < n → r ≡ member acts a → not r ≡ fault six n acts cell a
+  step r s h e = rw (s, e, lt-ltb cell n h)
 
-    pub step : (r : Bool) → cell < n → r ≡ member acts a → not r ≡ fault six n acts cell a
-    step r h e = rw (not-false six by-six, e, lt-ltb cell n h)
+  pub blank : six ≡ false → cell ≡ 65535 → false ≡ fault six n acts cell a
+  blank s h = rw (s, eq-eqb cell 65535 h)
+
+  pub filled : six ≡ false → (cell ≡ 65535 → ⊥) → leb n cell ≡ fault six n acts cell a
+  filled s h = rw (s, ne-eqb cell 65535 h)
 
 -- Within a list it does not matter what stands beyond it.
 pub within : (l : List ℕ) (k c d : ℕ) → k < length l → getD l k c ≡ getD l k d

@@ -1,53 +1,64 @@
-use Rattle.faults.proofs.Finds.{sound-start, find-passed, find-five, find-six, find-nothing}
+use Prim.Native.Nat.{_-_, _≤_}
+use native.Mathlib.Omega.{arith}
+use Rattle.faults.specs.Cells.{SoundBefore}
+use Rattle.faults.proofs.Finds.{PassedBefore, sound-start, passed-start, passed-on, find-fault, find-nothing}
 use borrow.Author.Needs.{needs}
 use Rattle.faults.proofs.find.Statement.{statement}
 use Rattle.faults.proofs.find.Tie as tie
 
-limits-requires : tie.Need-limits-requires
+abbrev Inv-loop : tie.InvT-loop
+Inv-loop cells states acts below rows start₀ check₀ start check =
+    (5 ≤ check) × (check ≤ 7) × SoundBefore states acts cells start × PassedBefore states acts cells check
+
+abbrev μ-loop : tie.MeasureT-loop
+μ-loop cells states acts below rows start₀ check₀ start check = 7 - check
+
+limits-requires : tie.Need-limits-requires Inv-loop μ-loop
 limits-requires c κs = search needs
 
-slice-aggregate-walk : tie.Need-slice-aggregate-walk
+loop-holds : tie.Need-loop-holds Inv-loop μ-loop
+loop-holds c = (omega arith, omega arith, sound-start _ _ _, passed-start _ _ _)
+
+slice-aggregate-walk : tie.Need-slice-aggregate-walk Inv-loop μ-loop
 slice-aggregate-walk c = search needs
 
-walk-requires : tie.Need-walk-requires
-walk-requires c κs = search (sound-start, needs)
+walk-requires : tie.Need-walk-requires Inv-loop μ-loop
+walk-requires c κs = search needs
 
-returns : tie.Need-returns
-returns c = search (find-passed, needs)
+mul-if1 : tie.Need-mul-if1 Inv-loop μ-loop
+mul-if1 c = search needs
 
-mul-if2 : tie.Need-mul-if2
-mul-if2 c = search needs
+returns : tie.Need-returns Inv-loop μ-loop
+returns c = search (find-fault, needs)
 
-returns-2 : tie.Need-returns-2
-returns-2 c = search (find-five, needs)
+add-check : tie.Need-add-check Inv-loop μ-loop
+add-check c = search needs
 
-slice-aggregate-walk-2 : tie.Need-slice-aggregate-walk-2
-slice-aggregate-walk-2 c = search needs
+loop-less : tie.Need-loop-less Inv-loop μ-loop
+loop-less c = search needs
 
-walk-requires-2 : tie.Need-walk-requires-2
-walk-requires-2 c κs = search needs
+loop-again : tie.Need-loop-again Inv-loop μ-loop
+loop-again c =
+    let w = c .before .before .walk in
+    let i = c .before .before .before .before .before .loop .inv in
+    (omega arith, omega arith, w .ensures .before, passed-on _ _ _ _ (w .result) (i .0) (omega arith) (i .3) (w .ensures) (omega arith))
 
-mul-if3 : tie.Need-mul-if3
-mul-if3 c = search needs
-
-returns-3 : tie.Need-returns-3
-returns-3 c = search (find-six, needs)
-
-returns-4 : tie.Need-returns-4
-returns-4 c = search (find-nothing, needs)
+returns-2 : tie.Need-returns-2 Inv-loop μ-loop
+returns-2 c = search (find-nothing, needs)
 
 pub find-spec : {M : Type 1} → statement M
 find-spec =
     tie.close
     (tie.spec
+    Inv-loop
+    μ-loop
     limits-requires
+    loop-holds
     slice-aggregate-walk
     walk-requires
+    mul-if1
     returns
-    mul-if2
-    returns-2
-    slice-aggregate-walk-2
-    walk-requires-2
-    mul-if3
-    returns-3
-    returns-4)
+    add-check
+    loop-less
+    loop-again
+    returns-2)
