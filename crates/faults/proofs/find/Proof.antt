@@ -29,7 +29,9 @@ mul-if1 : tie.Need-mul-if1 Inv-loop μ-loop
 mul-if1 c = search needs
 
 returns : tie.Need-returns Inv-loop μ-loop
-returns c = search (find-fault, needs)
+returns c =
+    find-fault _ _ _ _ (c .before .before .walk .result) (omega arith) (omega arith)
+    (c .before .before .before .before .before .loop .inv .3) (c .before .before .walk .ensures) (omega arith)
 
 add-check : tie.Need-add-check Inv-loop μ-loop
 add-check c = search needs
@@ -38,10 +40,13 @@ loop-less : tie.Need-loop-less Inv-loop μ-loop
 loop-less c = search needs
 
 loop-again : tie.Need-loop-again Inv-loop μ-loop
-loop-again c =
-    let w = c .before .before .walk in
-    let i = c .before .before .before .before .before .loop .inv in
-    (omega arith, omega arith, w .ensures .before, passed-on _ _ _ _ (w .result) (i .0) (omega arith) (i .3) (w .ensures) (omega arith))
+loop-again c = (
+  omega arith,
+  omega arith,
+  search needs,
+  passed-on _ _ _ _ (c .before .before .walk .result) (omega arith) (omega arith)
+      (c .before .before .before .before .before .loop .inv .3) (c .before .before .walk .ensures) (omega arith),
+)
 
 returns-2 : tie.Need-returns-2 Inv-loop μ-loop
 returns-2 c = search (find-nothing, needs)
