@@ -1,33 +1,36 @@
--- What a reader of a report may conclude, whatever is lent (01, "The program and one full run"): no digit of a figure is lost, and more than
--- 1,024 pairs get 10.
-use mathlib.Core.Path.{_≡_, refl, subst, _∙_}
+-- What a reader of a report may conclude, whatever is lent (01, "The program and one full run"): no digit of a figure is lost, more than 1,024
+-- pairs get 10, and a refusal leaves nothing half done in the lent buffers.
+use mathlib.Core.Path.{_≡_, refl, subst, ap, _∙_}
 use mathlib.Core.Bool.{Bool, true, false, not, _||_, cond}
-use mathlib.Core.List.{List, [], _∷_}
+use mathlib.Core.List.{List, [], _∷_, _++_, append-nil}
 use Prim.Native.Nat.{ℕ, suc, _+_, _*_, _/_, _≤_, _<_}
 use native.Mathlib.Omega.{arith}
 use native.Mathlib.Decide.{ℕ-discrete}
 use lib.Dec.{T, eqb, ltb, nltb→le}
-use lib.ListN.{length}
+use lib.ListN.{length, drop, replicate}
 use borrow.Author.Tests.{ne-eqb}
 use Rattle.theory.specs.declared.Checked.{Checked}
-use Rattle.theory.specs.declared.Checked.the-variants.{Accepted}
+use Rattle.theory.specs.declared.Checked.the-variants.{Accepted, Refused}
 use Rattle.theory.specs.Bounded.{digit}
-use Rattle.theory.specs.Table.{Table, mirrorTable, composition, synthesis, controller, keptCount, stepCount, endCount}
+use Rattle.theory.specs.Table.{Table, mirrorTable, cellsOf, composition, synthesis, controller, keptCount, stepCount, endCount}
 use Rattle.theory.specs.Checks.{first, refuse, uncovered, eachTable, synthesisChecks}
 use Rattle.theory.specs.Demand.{Premises}
 use Rattle.theory.proofs.Bounded.{length-tabulate, count-le}
-use Rattle.theory.proofs.Checks.{first-part, first-accepted, both-passed, checks-premises, premises-checks}
+use Rattle.theory.proofs.Checks.{first-part, first-refused, first-accepted, both-passed, checks-premises, premises-checks}
 use Rattle.theory.proofs.Controller.{mirror-valid}
 use Rattle.theory.proofs.Tests.{or-right}
 use Rattle.theory.proofs.Verdicts as verdicts
 use Rattle.text.specs.declared.TextRefusal.{TextRefusal}
 use Rattle.text.specs.Fields.{onto, split}
 use Rattle.text.specs.Lines.{parse}
-use Rattle.text.specs.Reading.{Signal, Result, next, stop, Reading, Outcome, finished, ended, Joint, both, neither, onward, entered, isNil, fresh, refuseAt, readLines, readFrom, readAlone, afterFirst, afterSecond, readBoth}
-use Rattle.text.specs.Writing.{decimal}
+use Rattle.text.specs.Reading.{Signal, Result, next, stop, Reading, Outcome, finished, ended, Joint, both, neither, onward, entered, isNil, fresh, refuseAt, readLines, readFrom, readAlone, afterFirst, afterSecond, readBoth, tableRead}
+use Rattle.text.specs.Writing.{decimal, tabbed, printed}
 use Rattle.text.proofs.Decimal.{Digits, digits-of}
-use Rattle.report.specs.Report.{lesserOf, lentPairs, roomOf}
-use Rattle.report.proofs.Whole.{lesser-le}
+use Rattle.emit.specs.Buffer.{stored}
+use Rattle.emit.proofs.Buffer.{stored-front}
+use Rattle.printout.specs.Lines.{refusalText, figures}
+use Rattle.report.specs.Report.{lentPairs, roomOf, reportChecks, madeText, jointText, unlessRefusal, reportWith, Told}
+use Rattle.report.proofs.Whole.{lent-fits}
 
 -- What is printed of a number below 100,000 is its decimal: digits, five at most, no needless zero before them, and their value is the number.
 pub printed-whole : (n : ℕ) → n < 100000 → Digits 4 n (decimal n)
@@ -60,7 +63,7 @@ third false true z r₁ r₂ r₃ r₄ g h t = absurd (h tt)
 third false false true r₁ r₂ r₃ r₄ g h t = refl
 third false false false r₁ r₂ r₃ r₄ g h t = absurd t
 
-module _ (a b : Table) (cells flags : ℕ) where
+module _ (m p : List ℕ) (a b : Table) (cells flags : ℕ) where
   abbrev count : ℕ
   count = a .header .states * b .header .states
 
@@ -68,11 +71,15 @@ module _ (a b : Table) (cells flags : ℕ) where
   lent = lentPairs a b (roomOf cells flags)
 
   lent-small : lent ≤ 1024
-  lent-small = omega (arith, lesser-le count (roomOf cells flags) .1, lesser-le (lesserOf (cells / 32) flags) 1024 .1)
+  lent-small = lent-fits count cells flags lent refl .own
 
   flags-many : length (synthesis a b .flags) ≡ count
   unfolding composition
   flags-many = length-tabulate _ 0 count
+
+  cells-many : length (synthesis a b .cells) ≡ count * 32
+  unfolding composition cellsOf
+  cells-many = length-tabulate _ 0 (count * 32)
 
   steps-few : stepCount (controller a b) ≤ count * 32
   unfolding stepCount
@@ -82,20 +89,24 @@ module _ (a b : Table) (cells flags : ℕ) where
   unfolding endCount
   ends-few = count-le count _
 
-  -- Where the maker's checks pass, as many pairs are lent as there are.
-  all-lent : first (synthesisChecks a b (lent * 32) lent) ≡ Accepted → lent ≡ count
+  maker-accepted : first (reportChecks m p a b lent) ≡ Accepted → first (synthesisChecks a b (lent * 32) lent) ≡ Accepted
+  unfolding reportChecks
+  maker-accepted e = first-part (synthesisChecks a b (lent * 32) lent) _ e .0
+
+  -- Where no check applies, as many pairs are lent as there are.
+  all-lent : first (reportChecks m p a b lent) ≡ Accepted → lent ≡ count
   unfolding synthesisChecks
   all-lent e =
-      let (_, (_, (_, (c, _)))) = both-passed a b _ .0 e in
+      let (_, (_, (_, (c, _)))) = both-passed a b _ .0 (maker-accepted e) in
       elim (ℕ-discrete lent count) [
         | yes q ↦ q
         | no d ↦ absurd (c (or-right (not (eqb (lent * 32) (count * 32))) (not (eqb lent count)) (rw (ne-eqb lent count d) tt)))
       ]
 
-  -- Figures are printed only where those checks pass.
-  pub figures-small : first (synthesisChecks a b (lent * 32) lent) ≡ Accepted → Small a b
+  -- Figures are printed only where no check applies.
+  pub figures-small : first (reportChecks m p a b lent) ≡ Accepted → Small a b
   figures-small e =
-      let v = checks-premises a b (lent * 32) lent e in
+      let v = checks-premises a b (lent * 32) lent (maker-accepted e) in
       let few : count ≤ 1024 = omega (arith, all-lent e, lent-small) in
       record {
         pairs = few;
@@ -105,16 +116,20 @@ module _ (a b : Table) (cells flags : ℕ) where
         ends = omega (arith, few, ends-few);
       }
 
-  -- More than 1,024 pairs gets 10, of tables that no earlier check refuses.
-  pub too-many : Premises a b → 1024 < count → first (synthesisChecks a b (lent * 32) lent) ≡ refuse 10 0
+  makers-ten : Premises a b → 1024 < count → first (synthesisChecks a b (lent * 32) lent) ≡ refuse 10 0
   unfolding synthesisChecks first
-  too-many v more =
+  makers-ten v more =
       let (_, (c8, (c9, _))) = both-passed a b _ .0 (premises-checks a b v) in
       let d : (lent ≡ count) → ⊥ = λ q. omega (arith, lent-small) in
       let z : Bool = not (eqb (lent * 32) (count * 32)) || not (eqb lent count) in
       let c10 : T z = or-right (not (eqb (lent * 32) (count * 32))) (not (eqb lent count)) (rw (ne-eqb lent count d) tt) in
       first-accepted (eachTable a b) _ (first-part (eachTable a b) _ (premises-checks a b v) .0)
       ∙ third (uncovered (a .header) (b .header)) (ltb 4096 count) z (refuse 8 0) (refuse 9 0) (refuse 10 0) Accepted c8 c9 c10
+
+  -- More than 1,024 pairs gets 10, of tables that no earlier check refuses.
+  pub too-many : Premises a b → 1024 < count → first (reportChecks m p a b lent) ≡ refuse 10 0
+  unfolding reportChecks
+  too-many v more = first-refused (synthesisChecks a b (lent * 32) lent) _ _ (makers-ten v more)
 
 -- ---- the line of a refusal; its file and number are constants of the definitions
 
@@ -174,3 +189,121 @@ line-small c c′ m p r e =
     first-then : (o : Outcome) → lineOf o < 100000 → jointLine (afterFirst c′ p o) < 100000
     first-then (finished x) h = second-then x (readFrom (x .signals) 2 c′ p) (text-line (x .signals) 2 c′ p)
     first-then (ended r) h = h
+
+-- ---- what is left in the lent buffers
+
+firstByte : List ℕ → ℕ
+firstByte [] = 0
+firstByte (x ∷ s) = x
+
+six-first : (v : Bool) (pairs kept rounds steps ends : ℕ) (rest : List ℕ) → firstByte (figures v pairs kept rounds steps ends ++ rest) ≡ 118
+unfolding figures printed tabbed firstByte
+six-first v pairs kept rounds steps ends rest = refl
+
+line-first : (file number line : ℕ) → firstByte (refusalText file number line) ≡ 114
+unfolding refusalText printed tabbed firstByte
+line-first file number line = refl
+
+-- What is printed where no check applies is not the line of a refusal.
+six-no-line : (v w : Bool) (pairs kept rounds steps ends : ℕ) (text : List ℕ) (file number line : ℕ)
+    → cond w (figures v pairs kept rounds steps ends ++ text) (figures v pairs kept rounds steps ends) ≡ refusalText file number line → ⊥
+six-no-line v true pairs kept rounds steps ends text file number line e =
+    omega (arith, ap firstByte e, six-first v pairs kept rounds steps ends text, line-first file number line)
+six-no-line v false pairs kept rounds steps ends text file number line e =
+    omega (arith, ap firstByte e, ap firstByte (append-nil (figures v pairs kept rounds steps ends)), six-first v pairs kept rounds steps ends [], line-first file number line)
+
+module _ (m p : List ℕ) (room : ℕ) (order : ℕ → List ℕ) where
+  abbrev checkedOf : Reading → Reading → Checked
+  checkedOf x y = first (reportChecks m p (tableRead x) (tableRead y) (lentPairs (tableRead x) (tableRead y) room))
+
+  line-leaves : (j : Joint) (file number line : ℕ) → jointText m p room order j ≡ refusalText file number line
+      → (l : List ℕ) (f : Reading → Reading → List ℕ) → unlessRefusal m p room j l f ≡ l
+  unfolding madeText
+  line-leaves (neither r) file number line e l f = refl
+  line-leaves (both x y) file number line e l f = go (checkedOf x y) refl
+    where
+      go : (k : Checked) → checkedOf x y ≡ k → unlessRefusal m p room (both x y) l f ≡ l
+      go Accepted q = absurd (six-no-line _ (synthesis (tableRead x) (tableRead y) .compatible) _ _ _ _ _ _ file number line (rw q at e))
+      go (Refused r) q = rw q
+
+  record Passed (j : Joint) : Type 0 where
+    component : Reading
+    specification : Reading
+    read : j ≡ both component specification
+    accepted : checkedOf component specification ≡ Accepted
+
+  passed-leaves : (j : Joint) (w : Passed j) (l : List ℕ) (f : Reading → Reading → List ℕ)
+      → unlessRefusal m p room j l f ≡ f (w .component) (w .specification)
+  passed-leaves j w l f = ap (λ (k : Joint). unlessRefusal m p room k l f) (w .read) ∙ rw (w .accepted)
+
+  no-line-passed : (j : Joint) → ((file number line : ℕ) → jointText m p room order j ≡ refusalText file number line → ⊥) → Passed j
+  unfolding madeText
+  no-line-passed (neither r) h = absurd (h (r .text) (r .number) (r .line) refl)
+  no-line-passed (both x y) h = go (checkedOf x y) refl
+    where
+      go : (k : Checked) → checkedOf x y ≡ k → Passed (both x y)
+      go Accepted q = record { component = x; specification = y; read = refl; accepted = q }
+      go (Refused r) q = absurd (h (r .table) (r .number) 0 (rw q))
+
+-- Demand 1 of the letter: "A refused call changes no lent buffer, except that a refused reading leaves every table it was to fill without steps."
+pub record Undone (cm cp cells flags cm′ cp′ cells′ flags′ : List ℕ) : Type 0 where
+  pub module-stepless : cm′ ≡ replicate (length cm) 65535
+  pub plan-stepless : cp′ ≡ replicate (length cp) 65535
+  pub cells-kept : cells′ ≡ cells
+  pub flags-kept : flags′ ≡ flags
+
+-- The tables read and the maker's result; beyond the result its buffers are as they were.
+pub record Done (m p cm cp cells flags cm′ cp′ cells′ flags′ : List ℕ) : Type 0 where
+  pub component : Reading
+  pub specification : Reading
+  pub read : readBoth (length cm) m (length cp) p ≡ both component specification
+  pub module-read : cm′ ≡ component .cells
+  pub plan-read : cp′ ≡ specification .cells
+  pub cells-made : cells′ ≡ synthesis (tableRead component) (tableRead specification) .cells ++ drop (controller (tableRead component) (tableRead specification) .header .states * 32) cells
+  pub flags-made : flags′ ≡ synthesis (tableRead component) (tableRead specification) .flags ++ drop (controller (tableRead component) (tableRead specification) .header .states) flags
+
+module _ (m p cm cp cells flags bytes : List ℕ) (end : ℕ) (cm′ cp′ cells′ flags′ bytes′ : List ℕ)
+    (t : Told m p cm cp cells flags bytes end cm′ cp′ cells′ flags′ bytes′) where
+  abbrev room : ℕ
+  room = roomOf (length cells) (length flags)
+
+  abbrev j : Joint
+  j = readBoth (length cm) m (length cp) p
+
+  -- What is printed.
+  abbrev printedText : List ℕ
+  printedText = reportWith (t .told .order) m p (length cm) (length cp) room
+
+  -- Where it is the line of a refusal, of the reading or after it.
+  pub refused-leaves : (file number line : ℕ) → printedText ≡ refusalText file number line → Undone cm cp cells flags cm′ cp′ cells′ flags′
+  unfolding reportWith
+  refused-leaves file number line e =
+      let kept = line-leaves m p room (t .told .order) j file number line e in
+      record {
+        module-stepless = t .module-left ∙ kept _ (λ x y. x .cells);
+        plan-stepless = t .plan-left ∙ kept _ (λ x y. y .cells);
+        cells-kept = t .cells-left ∙ kept _ (λ x y. stored cells 0 (synthesis (tableRead x) (tableRead y) .cells));
+        flags-kept = t .flags-left ∙ kept _ (λ x y. stored flags 0 (synthesis (tableRead x) (tableRead y) .flags));
+      }
+
+  -- Where it is none.
+  pub result-leaves : ((file number line : ℕ) → printedText ≡ refusalText file number line → ⊥) → Done m p cm cp cells flags cm′ cp′ cells′ flags′
+  unfolding reportWith
+  result-leaves h =
+      let w = no-line-passed m p room (t .told .order) j h in
+      let made = passed-leaves m p room (t .told .order) j w in
+      let a = tableRead (w .component) in
+      let b = tableRead (w .specification) in
+      let all = all-lent m p a b (length cells) (length flags) (w .accepted) in
+      let fits = lent-fits (count m p a b (length cells) (length flags)) (length cells) (length flags) _ refl in
+      let n = cells-many m p a b (length cells) (length flags) in
+      let k = flags-many m p a b (length cells) (length flags) in
+      record {
+        component = w .component;
+        specification = w .specification;
+        read = w .read;
+        module-read = t .module-left ∙ made _ (λ x y. x .cells);
+        plan-read = t .plan-left ∙ made _ (λ x y. y .cells);
+        cells-made = t .cells-left ∙ made _ (λ x y. stored cells 0 (synthesis (tableRead x) (tableRead y) .cells)) ∙ stored-front cells (synthesis a b .cells) (omega arith) ∙ rw n;
+        flags-made = t .flags-left ∙ made _ (λ x y. stored flags 0 (synthesis (tableRead x) (tableRead y) .flags)) ∙ stored-front flags (synthesis a b .flags) (omega arith) ∙ rw k;
+      }

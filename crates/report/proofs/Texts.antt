@@ -1,5 +1,6 @@
 -- The text of the sequencer behind the six lines, or the refusal in place of all.
 use mathlib.Core.Path.{_≡_, refl, sym, ap, _∙_}
+use mathlib.Core.Bool.{Bool, true, false}
 use mathlib.Core.List.{List, _++_}
 use Prim.Native.Nat.{ℕ, _-_, _≤_}
 use native.Mathlib.Omega.{arith}
@@ -18,8 +19,7 @@ use Rattle.writer.specs.declared.Printed.the-variants as reply
 use Rattle.writer.specs.Replies.{writerReply}
 use Rattle.labels.specs.Names.{sequencerWord, signalNames}
 use Rattle.printout.specs.Lines.{refusalText}
-use Rattle.report.specs.Report.{withText}
-use Rattle.report.specs.Parts.{WithText}
+use Rattle.report.specs.Parts.{textChecks, withText, WithText}
 
 refused-of : (c : Checked) (n : ℕ) (r : Refusal) → unlessRefused c reply.Refused (reply.Length n) ≡ reply.Refused r → c ≡ Refused r
 refused-of Accepted n r e = absurd (let z : _≡_ {A = ℕ} 0 1 = cc in omega arith)
@@ -41,12 +41,12 @@ module _ (m p : List ℕ) (t : Table) (bytes bytes′ : List ℕ) (k : Printed) 
   unfolding writerReply
   told = sym (rw size at replied)
 
-  pub text-refused : (six : List ℕ) (r : Refusal) → k ≡ reply.Refused r → (out : List ℕ) (e : ℕ) (out′ : List ℕ)
-      → Puts out 0 (refusalText (r .table) (r .number) 0) e out′ → WithText m p t six out e out′
-  unfolding withText
-  text-refused six r q out e out′ (u, v) =
+  pub text-refused : (six : List ℕ) (r : Refusal) → k ≡ reply.Refused r → (out : List ℕ) (refused : Bool) (e : ℕ) (out′ : List ℕ) → refused ≡ true
+      → Puts out 0 (refusalText (r .table) (r .number) 0) e out′ → WithText m p t six out refused e out′
+  unfolding withText textChecks
+  text-refused six r q out refused e out′ w (u, v) =
       let c : checked ≡ Refused r = refused-of checked _ r (told ∙ q) in
-      record { told = record { order = ascending t; each-once = ascending-order t; text = rw c v; ends = rw c u } }
+      record { told = record { order = ascending t; each-once = ascending-order t; text = rw c v; ends = rw c u }; refuses = w ∙ rw c }
 
   module _ (n : ℕ) (fits : k ≡ reply.Length n) where
     accepted : (checked ≡ Accepted) × (textLength t sequencerWord names ≡ n)
@@ -66,10 +66,13 @@ module _ (m p : List ℕ) (t : Table) (bytes bytes′ : List ℕ) (k : Printed) 
     text-within e = omega (arith, ap length whole, length-append text (drop n bytes), length-drop n bytes, long)
 
     pub text-follows : (six out : List ℕ) (at e : ℕ) (out₁ out₂ : List ℕ) → Puts out 0 six at out₁ → Puts out₁ at (take (n - 0) bytes′) e out₂
-        → WithText m p t six out e out₂
-    unfolding withText
+        → WithText m p t six out false e out₂
+    unfolding withText textChecks
     text-follows six out at e out₁ out₂ u v =
         let z : n - 0 ≡ length text = omega (arith, long) in
         let part : take (n - 0) bytes′ ≡ text = rw (z, whole) (take-append-seam text (drop n bytes)) in
         let w = puts-then out 0 six text at e out₁ out₂ u (rw part at v) in
-        record { told = record { order = written .order; each-once = written .each-once; text = rw (accepted .0) (w .1); ends = rw (accepted .0) (w .0) } }
+        record {
+          told = record { order = written .order; each-once = written .each-once; text = rw (accepted .0) (w .1); ends = rw (accepted .0) (w .0) };
+          refuses = rw (accepted .0);
+        }

@@ -1,34 +1,34 @@
--- The report of two texts: what was read is lent on to the maker, and what the maker leaves stands in the program's buffers.
+-- The report of two texts: what was read is lent on to the maker, and what is left stands in the program's buffers.
 use mathlib.Core.Path.{_≡_, refl, sym, ap, _∙_}
 use mathlib.Core.Bool.{Bool, true, false, cond}
 use mathlib.Core.List.{List, _++_}
-use Prim.Native.Nat.{ℕ, _*_, _/_, _≤_, _<_}
+use Prim.Native.Nat.{ℕ, _+_, _*_, _/_, _≤_, _<_}
 use native.Mathlib.Nat.{mul-le-mul}
 use native.Mathlib.Decide.{decLe}
+use native.Mathlib.Numerals.{add-one}
 use native.Mathlib.Omega.{arith}
 use lib.Dec.{leb}
-use lib.ListN.{length, take, drop, take-append-drop}
-use lib.Seq.{length-take-le}
+use lib.ListN.{length, take, drop, getD, set, replicate, drop-of-length-le}
+use lib.Seq.{drop-cons, length-take-le, take-at}
 use borrow.Author.Tests.{le-leb, lt-leb}
 use Rattle.theory.specs.declared.Automaton.{Automaton}
 use Rattle.theory.specs.declared.Checked.{Checked}
 use Rattle.theory.specs.declared.Checked.the-variants.{Accepted, Refused}
-use Rattle.theory.specs.Table.{Table, table, synthesis, controller}
-use Rattle.theory.specs.Checks.{first, unlessRefused, synthesisChecks}
+use Rattle.theory.specs.Table.{Table, table, synthesis}
+use Rattle.theory.specs.Checks.{first, unlessRefused}
 use Rattle.text.specs.declared.TextRefusal.{TextRefusal}
 use Rattle.text.specs.Reading.{Reading, Joint, both, neither, readBoth, cellsFirst, cellsSecond, tableRead}
 use Rattle.text.specs.Writing.{ascending}
 use Rattle.text.proofs.Accepted as accepted
 use Rattle.text.proofs.Lengths.{ascending-order}
+use Rattle.emit.specs.Buffer.{stored}
 use Rattle.emit.proofs.Buffer.{Puts}
 use Rattle.reader.specs.declared.Together.{Together}
 use Rattle.reader.specs.declared.Together.the-variants as together
 use Rattle.reader.specs.Replies.{togetherReply}
-use Rattle.synthesis.specs.Replies.{synthesisCells, synthesisFlags}
 use Rattle.printout.specs.Lines.{refusalText}
-use Rattle.report.specs.Report.{lesserOf, lentPairs, madeText, reportWith, roomOf, printedTable, Reported, cellsMade, flagsMade, cellsLeft, flagsLeft}
-use Rattle.report.specs.Parts.{InOrder, pairsText, Holds, Makes}
-use Rattle.report.proofs.Made.{in-order-same}
+use Rattle.report.specs.Report.{lesserOf, roomOf, reportChecks, unlessRefusal, reportWith, printedTable, Reported}
+use Rattle.report.specs.Parts.{isRefused, Makes, Holds, Leaves, pairsFor}
 
 -- ---- the lesser of two numbers
 
@@ -39,18 +39,13 @@ module _ (a b : ℕ) where
   pub lesser-second : b < a → b ≡ lesserOf a b
   lesser-second h = rw (lt-leb a b h)
 
-  pub lesser-le : (lesserOf a b ≤ a) × (lesserOf a b ≤ b)
+  lesser-le : (lesserOf a b ≤ a) × (lesserOf a b ≤ b)
   lesser-le = elim (decLe a b) [
     | yes h ↦ rw (le-leb a b h) (let z : a ≤ a = omega arith in z, h)
     | no g ↦ let l : b < a = omega arith in rw (lt-leb a b l) (let z : b ≤ a = omega arith in z, let w : b ≤ b = omega arith in w)
   ]
 
--- ---- parts of the result buffers
-
--- The front of a buffer, as a refused call or as another one left it, before the rest.
-front : (c : Checked) (l l′ : List ℕ) (j : ℕ) → unlessRefused c (λ r. take j l) l′ ++ drop j l ≡ unlessRefused c (λ r. l) (l′ ++ drop j l)
-front Accepted l l′ j = refl
-front (Refused r) l l′ j = take-append-drop j l
+-- ---- the room of the maker
 
 pub few-pairs : (a b : Automaton) (ca cb : List ℕ) → Holds a ca → Holds b cb → a .states * b .states ≤ 16777216
 few-pairs a b ca cb h k = mul-le-mul (h .few) (k .few)
@@ -59,63 +54,76 @@ pub lent-is : (a b cells flags lent room n : ℕ) → lent ≡ lesserOf (cells /
     → n ≡ lesserOf (a * b) (roomOf cells flags)
 lent-is a b cells flags lent room n e f g = g ∙ ap (lesserOf (a * b)) (f ∙ ap (λ k. lesserOf k 1024) e)
 
-module _ (a b : Table) (cells flags : List ℕ) (n : ℕ) (n-lent : n ≡ lentPairs a b (roomOf (length cells) (length flags))) where
-  small : (n ≤ length flags) × (n ≤ length cells / 32)
-  small =
-      let x = lesser-le (length cells / 32) (length flags) in
-      let y = lesser-le (lesserOf (length cells / 32) (length flags)) 1024 in
-      let z = lesser-le (a .header .states * b .header .states) (roomOf (length cells) (length flags)) in
-      let f : n ≤ length flags = omega (arith, n-lent, x, y, z) in
-      let g : n ≤ length cells / 32 = omega (arith, n-lent, x, y, z) in
-      (f, g)
+-- As many pairs as are lent fit the lent buffers, and room for 1,024.
+pub record Fitting (cells flags n : ℕ) : Type 0 where
+  pub cells-fit : n * 32 ≤ cells
+  pub flags-fit : n ≤ flags
+  pub own : n ≤ 1024
 
-  pub lent-flags : n ≤ length flags
-  lent-flags = small .0
+pub lent-fits : (pairs cells flags n : ℕ) → n ≡ lesserOf pairs (roomOf cells flags) → Fitting cells flags n
+lent-fits pairs cells flags n n-lent =
+    let x = lesser-le (cells / 32) flags in
+    let y = lesser-le (lesserOf (cells / 32) flags) 1024 in
+    let z = lesser-le pairs (roomOf cells flags) in
+    record { cells-fit = omega (arith, n-lent, x, y, z); flags-fit = omega (arith, n-lent, x, y, z); own = omega (arith, n-lent, y, z) }
 
-  pub lent-cells : n * 32 ≤ length cells
-  lent-cells = omega (arith, small .1)
+-- ---- `copy`
 
-  size-cells : length (take (n * 32) cells) ≡ n * 32
-  size-cells = length-take-le (n * 32) cells lent-cells
+module _ (d₀ s d : List ℕ) (i : ℕ) where
+  pub copied-next : i < length s → stored d i (drop i s) ≡ stored d₀ 0 s → stored (set d i (getD s i 0)) (i + 1) (drop (i + 1) s) ≡ stored d₀ 0 s
+  unfolding stored
+  copied-next h e = rw (add-one i) (rw (drop-cons s i 0 h) at e)
 
-  size-flags : length (take n flags) ≡ n
-  size-flags = length-take-le n flags lent-flags
+  pub copied-all : length s ≤ i → stored d i (drop i s) ≡ stored d₀ 0 s → d ≡ stored d₀ 0 s
+  unfolding stored
+  copied-all h e = rw (drop-of-length-le s h) at e
 
-  cells-back : synthesisCells a b (take (n * 32) cells) (length (take n flags)) ++ drop (n * 32) cells ≡ cellsMade a b cells (length flags)
-  unfolding synthesisCells cellsMade
-  cells-back = rw (size-cells, size-flags, ← n-lent) (front (first (synthesisChecks a b (n * 32) n)) cells (synthesis a b .cells) (n * 32))
+-- ---- what is left in a buffer
 
-  flags-back : synthesisFlags a b (length (take (n * 32) cells)) (take n flags) ++ drop n flags ≡ flagsMade a b (length cells) flags
-  unfolding synthesisFlags flagsMade
-  flags-back = rw (size-cells, size-flags, ← n-lent) (front (first (synthesisChecks a b (n * 32) n)) flags (synthesis a b .flags) n)
+module _ (b : Bool) (l x y : List ℕ) where
+  pub on-true : b ≡ true → l ≡ x → l ≡ cond b x y
+  on-true e f = rw e f
 
-  same-text : (m p : List ℕ) (order : ℕ → List ℕ)
-      → pairsText m p a b (length (take (n * 32) cells)) (length (take n flags)) order ≡ madeText order m p a b (roomOf (length cells) (length flags))
-  unfolding pairsText madeText
-  same-text m p order = rw (size-cells, size-flags, ← n-lent)
+  pub on-false : b ≡ false → l ≡ y → l ≡ cond b x y
+  on-false e f = rw e f
 
-  made-in : (m p : List ℕ) (i j : ℕ) → i ≡ n * 32 → j ≡ n → (out : List ℕ) (e : ℕ) (cells′ flags′ out′ : List ℕ)
-      → (InOrder (controller a b) (pairsText m p a b (length (take i cells)) (length (take j flags))) out e out′)
-      × ((cells′ ≡ synthesisCells a b (take i cells) (length (take j flags))) × (flags′ ≡ synthesisFlags a b (length (take i cells)) (take j flags)))
-      → Makes m p a b cells flags out e (cells′ ++ drop i cells) (flags′ ++ drop j flags) out′
-  made-in m p i j ei ej out e cells′ flags′ out′ (told, (f, g)) = record {
-    told = in-order-same told refl (λ order. rw (ei, ej) (same-text m p order));
-    cells-left = rw (f, ei, ej) cells-back;
-    flags-left = rw (g, ei, ej) flags-back;
-  }
+-- By the answer, what the definition says: a result that is made only where no check applies.
+left-by : (k : Checked) (refused : Bool) → refused ≡ isRefused k → (l made made′ : List ℕ) → (k ≡ Accepted → made ≡ made′)
+    → cond refused l made ≡ unlessRefused k (λ r. l) made′
+left-by Accepted refused e l made made′ h = rw e (h refl)
+left-by (Refused r) refused e l made made′ h = rw e
 
--- The same with the parts as code lends them.
-pub made-of-parts : (m p : List ℕ) (a b : Automaton) (ca cb cells flags : List ℕ) (n : ℕ) → n ≡ lesserOf (a .states * b .states) (roomOf (length cells) (length flags))
-    → (u v i j : ℕ) → u ≡ a .states * 32 → v ≡ b .states * 32 → i ≡ n * 32 → j ≡ n
-    → (out : List ℕ) (e : ℕ) (cells′ flags′ out′ : List ℕ)
-    → (InOrder (controller (table a (take u ca)) (table b (take v cb))) (pairsText m p (table a (take u ca)) (table b (take v cb)) (length (take i cells)) (length (take j flags))) out e out′)
-    × ((cells′ ≡ synthesisCells (table a (take u ca)) (table b (take v cb)) (take i cells) (length (take j flags)))
-    × (flags′ ≡ synthesisFlags (table a (take u ca)) (table b (take v cb)) (length (take i cells)) (take j flags)))
-    → Makes m p (table a (take (a .states * 32) ca)) (table b (take (b .states * 32) cb)) cells flags out e (cells′ ++ drop i cells) (flags′ ++ drop j flags) out′
-made-of-parts m p a b ca cb cells flags n n-is u v i j eu ev ei ej out e cells′ flags′ out′ w =
-    rw (← eu, ← ev) (made-in (table a (take u ca)) (table b (take v cb)) cells flags n n-is m p i j ei ej out e cells′ flags′ out′ w)
+-- The result out of room of its own, of which the maker was lent parts: i cells, j flags.
+module _ (m p : List ℕ) (a b : Table) (cells flags : List ℕ) (n : ℕ) (n-lent : n ≡ pairsFor a b cells flags) (own own′ : List ℕ)
+    (i j : ℕ) (i-is : i ≡ n * 32) (j-is : j ≡ n) (i-fits : i ≤ length own) (j-fits : j ≤ length own′) where
+  lent-own : length (take j own′) ≡ pairsFor a b cells flags
+  lent-own = length-take-le j own′ j-fits ∙ j-is ∙ n-lent
+
+  pub leaves-made : (out : List ℕ) (refused : Bool) (e : ℕ) (made kept rest rest′ cells′ flags′ out′ : List ℕ)
+      → length made ≡ length (take i own) → length kept ≡ length (take j own′)
+      → Makes m p a b (length (take j own′)) out refused e made kept out′
+      → (cells′ ≡ cond refused cells (stored cells 0 (take i (made ++ rest)))) × (flags′ ≡ cond refused flags (stored flags 0 (take j (kept ++ rest′))))
+      → Leaves m p a b cells flags out refused e cells′ flags′ out′
+  leaves-made out refused e made kept rest rest′ cells′ flags′ out′ f g w (u, v) =
+      let f′ : take i (made ++ rest) ≡ made = take-at made rest i (f ∙ length-take-le i own i-fits) in
+      let g′ : take j (kept ++ rest′) ≡ kept = take-at kept rest′ j (g ∙ length-take-le j own′ j-fits) in
+      let k = first (reportChecks m p a b (pairsFor a b cells flags)) in
+      let w′ : Makes m p a b (pairsFor a b cells flags) out refused e made kept out′ = rw lent-own at w in
+      record {
+        told = w′ .told;
+        refuses = w′ .refuses;
+        cells-left = u ∙ left-by k refused (w′ .refuses) cells _ _ (λ q. ap (stored cells 0) (f′ ∙ w′ .cells-made q));
+        flags-left = v ∙ left-by k refused (w′ .refuses) flags _ _ (λ q. ap (stored flags 0) (g′ ∙ w′ .flags-made q));
+      }
 
 -- ---- what was read
+
+-- The cells of the two tables are parts of longer buffers.
+pub leaves-read : (m p : List ℕ) (a b : Automaton) (ca cb : List ℕ) (u v : ℕ) → u ≡ a .states * 32 → v ≡ b .states * 32
+    → (cells flags out : List ℕ) (refused : Bool) (e : ℕ) (cells′ flags′ out′ : List ℕ)
+    → Leaves m p (table a (take u ca)) (table b (take v cb)) cells flags out refused e cells′ flags′ out′
+    → Leaves m p (table a (take (a .states * 32) ca)) (table b (take (b .states * 32) cb)) cells flags out refused e cells′ flags′ out′
+leaves-read m p a b ca cb u v eu ev cells flags out refused e cells′ flags′ out′ w = rw (eu, ev) at w
 
 joint-refused : (j : Joint) (r : TextRefusal) → togetherReply j ≡ together.Refused r → j ≡ neither r
 joint-refused (both x y) r e = absurd (let z : _≡_ {A = ℕ} 0 1 = cc in omega arith)
@@ -147,11 +155,14 @@ module _ (c c′ : ℕ) (m p cm cp : List ℕ) (k : Together) (replied : k ≡ t
     report-refused pairs out e out′ (u, v) =
         record { order = ascending (printedTable j); each-once = ascending-order (printedTable j); text = rw none v; ends = rw none u }
 
-    pub cells-kept : (cells : List ℕ) (flags : ℕ) → cells ≡ cellsLeft cells flags j
-    cells-kept cells flags = rw none
+    pub module-none : (pairs : ℕ) → cm ≡ unlessRefusal m p pairs j (replicate c 65535) (λ x y. x .cells)
+    module-none pairs = first-left ∙ rw none
 
-    pub flags-kept : (cells : ℕ) (flags : List ℕ) → flags ≡ flagsLeft cells flags j
-    flags-kept cells flags = rw none
+    pub plan-none : (pairs : ℕ) → cp ≡ unlessRefusal m p pairs j (replicate c′ 65535) (λ x y. y .cells)
+    plan-none pairs = second-left ∙ rw none
+
+    pub result-kept : (pairs : ℕ) (l : List ℕ) (f : Reading → Reading → List ℕ) → l ≡ unlessRefusal m p pairs j l f
+    result-kept pairs l f = rw none
 
   module _ (a b : Automaton) (yes : k ≡ together.Tables a b) where
     given : Tables j a b
@@ -188,22 +199,40 @@ module _ (c c′ : ℕ) (m p cm cp : List ℕ) (k : Together) (replied : k ≡ t
     second-table : table b (take (b .states * 32) cp) ≡ tableRead y
     second-table = λ i. table (given .header′ i) (take (given .header′ i .states * 32) (second-cells i))
 
-    module _ (cells flags out : List ℕ) (e : ℕ) (cells′ flags′ out′ : List ℕ)
-        (makes : Makes m p (table a (take (a .states * 32) cm)) (table b (take (b .states * 32) cp)) cells flags out e cells′ flags′ out′) where
-      made : Makes m p (tableRead x) (tableRead y) cells flags out e cells′ flags′ out′
-      made = rw (first-table, second-table) at makes
+    module _ (cells flags out : List ℕ) (refused : Bool) (e : ℕ) (cells′ flags′ out′ : List ℕ)
+        (leaves : Leaves m p (table a (take (a .states * 32) cm)) (table b (take (b .states * 32) cp)) cells flags out refused e cells′ flags′ out′) where
+      abbrev pairs : ℕ
+      pairs = roomOf (length cells) (length flags)
 
-      pub report-made : Reported m p c c′ (roomOf (length cells) (length flags)) out e out′
+      abbrev checked : Checked
+      checked = first (reportChecks m p (tableRead x) (tableRead y) (pairsFor (tableRead x) (tableRead y) cells flags))
+
+      made : Leaves m p (tableRead x) (tableRead y) cells flags out refused e cells′ flags′ out′
+      made = rw (first-table, second-table) at leaves
+
+      pub report-made : (end : ℕ) → end ≡ e → Reported m p c c′ pairs out end out′
       unfolding reportWith
-      report-made = record {
+      report-made end f = record {
         order = made .told .order;
         each-once = rw (given .are) (made .told .each-once);
         text = rw (given .are) (made .told .text);
-        ends = rw (given .are) (made .told .ends);
+        ends = rw (given .are) (f ∙ made .told .ends);
       }
 
-      pub cells-made : cells′ ≡ cellsLeft cells (length flags) j
+      pub module-made : (cm′ : List ℕ) → cm′ ≡ cond refused (replicate (length cm) 65535) cm
+          → cm′ ≡ unlessRefusal m p pairs j (replicate c 65535) (λ x y. x .cells)
+      module-made cm′ u =
+          let n : length cm ≡ c = ap length first-cells ∙ sound .first .size in
+          rw (given .are) (u ∙ rw n (left-by checked refused (made .refuses) _ cm _ (λ q. first-cells)))
+
+      pub plan-made : (cp′ : List ℕ) → cp′ ≡ cond refused (replicate (length cp) 65535) cp
+          → cp′ ≡ unlessRefusal m p pairs j (replicate c′ 65535) (λ x y. y .cells)
+      plan-made cp′ u =
+          let n : length cp ≡ c′ = ap length second-cells ∙ sound .second .size in
+          rw (given .are) (u ∙ rw n (left-by checked refused (made .refuses) _ cp _ (λ q. second-cells)))
+
+      pub cells-made : cells′ ≡ unlessRefusal m p pairs j cells (λ x y. stored cells 0 (synthesis (tableRead x) (tableRead y) .cells))
       cells-made = rw (given .are) (made .cells-left)
 
-      pub flags-made : flags′ ≡ flagsLeft (length cells) flags j
+      pub flags-made : flags′ ≡ unlessRefusal m p pairs j flags (λ x y. stored flags 0 (synthesis (tableRead x) (tableRead y) .flags))
       flags-made = rw (given .are) (made .flags-left)

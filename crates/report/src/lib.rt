@@ -1,18 +1,25 @@
 // All that the bench program prints for two texts (document 01, "The program and one full run"), made in a lent buffer.
 ghost use mathlib.Core.Path.{_≡_};
-ghost use mathlib.Core.Bool.{true};
+ghost use mathlib.Core.Bool.{true, cond};
 ghost use Prim.Native.Nat.{_*_, _≤_};
-ghost use lib.ListN.{length, take};
-ghost use Rattle.theory.specs.Table.{table, controller};
+ghost use lib.ListN.{length, take, replicate};
+ghost use Rattle.theory.specs.Table.{table};
 ghost use Rattle.emit.specs.Buffer.{after, stored};
-ghost use Rattle.synthesis.specs.Replies.{synthesisCells, synthesisFlags};
+ghost use Rattle.printout.specs.Lines.{refusalText};
 ghost use Rattle.report.specs.Report.{lesserOf, roomOf, Told};
-ghost use Rattle.report.specs.Parts.{sixOf, InOrder, WithText, tableTold, toldText, pairsText, Holds, Makes};
+ghost use Rattle.report.specs.Parts.{sixOf, WithText, Tells, Makes, Holds, Leaves};
 use printout::refusal_line;
 use reader::Together;
 use synthesis::Synthesis;
 use theory::Automaton;
+use theory::Refusal;
 use writer::Printed;
+
+// What was put into the lent buffer for two tables: whether it is the line of a refusal, and where it ends.
+struct Answer {
+    refused: bool,
+    end: usize,
+}
 
 // The six lines over what the maker left in its buffers.
 fn six_lines(
@@ -32,6 +39,16 @@ fn six_lines(
     printout::figures(out, compatible, states, kept, rounds, steps, ends)
 }
 
+// The line of a refusal after the reading.
+fn refuse(out: &mut [u8], r: Refusal) -> Answer
+    ensures { λ a. ⌜ a .refused ≡ true ⌝ }
+    ensures { λ a. ⌜ a .end ≡ after (length (now (out .entry))) 0 (refusalText (r .table) (r .number) 0) ⌝ }
+    ensures { λ a. ⌜ now (out .exit) ≡ stored (now (out .entry)) 0 (refusalText (r .table) (r .number) 0) ⌝ }
+{
+    let end = refusal_line(out, 0, r.table, r.number, 0);
+    Answer { refused: true, end }
+}
+
 // The six lines and the text, which is made before anything is printed; or why there is no text.
 fn put_text<'a>(
     m: &'a [u8],
@@ -42,15 +59,19 @@ fn put_text<'a>(
     flags: &[u8],
     text: &mut [u8],
     out: &mut [u8],
-) -> usize
+) -> Answer
     requires { ⌜ length (now text) ≡ 65536 ⌝ }
-    ensures { λ r. ⌜ WithText (now (m .entry)) (now (p .entry)) (table header (now (cells .entry))) (sixOf true (header .states) rounds (now (cells .entry)) (now (flags .entry))) (now (out .entry)) r (now (out .exit)) ⌝ }
+    ensures { λ r. ⌜ WithText (now (m .entry)) (now (p .entry)) (table header (now (cells .entry))) (sixOf true (header .states) rounds (now (cells .entry)) (now (flags .entry))) (now (out .entry)) (r .refused) (r .end) (now (out .exit)) ⌝ }
 {
     match labels::write_text(m, p, header, cells, text) {
-        Printed::Refused(r) => refusal_line(out, 0, r.table, r.number, 0),
+        Printed::Refused(r) => refuse(out, r),
         Printed::Length(n) => {
             let at = six_lines(out, true, header.states, rounds, cells, flags);
-            emit::put(out, at, &text[0..n])
+            let end = emit::put(out, at, &text[0..n]);
+            Answer {
+                refused: false,
+                end,
+            }
         }
     }
 }
@@ -64,8 +85,8 @@ fn with_text<'a>(
     cells: &[u16],
     flags: &[u8],
     out: &mut [u8],
-) -> usize
-    ensures { λ r. ⌜ WithText (now (m .entry)) (now (p .entry)) (table header (now (cells .entry))) (sixOf true (header .states) rounds (now (cells .entry)) (now (flags .entry))) (now (out .entry)) r (now (out .exit)) ⌝ }
+) -> Answer
+    ensures { λ r. ⌜ WithText (now (m .entry)) (now (p .entry)) (table header (now (cells .entry))) (sixOf true (header .states) rounds (now (cells .entry)) (now (flags .entry))) (now (out .entry)) (r .refused) (r .end) (now (out .exit)) ⌝ }
 {
     let mut text = [0u8; 65536];
     put_text(m, p, header, rounds, cells, flags, &mut text, out)
@@ -79,8 +100,8 @@ fn tell<'a>(
     cells: &[u16],
     flags: &[u8],
     out: &mut [u8],
-) -> usize
-    ensures { λ r. ⌜ InOrder (tableTold reply (now (cells .entry))) (toldText (now (m .entry)) (now (p .entry)) reply (now (cells .entry)) (now (flags .entry))) (now (out .entry)) r (now (out .exit)) ⌝ }
+) -> Answer
+    ensures { λ r. ⌜ Tells (now (m .entry)) (now (p .entry)) reply (now (cells .entry)) (now (flags .entry)) (now (out .entry)) (r .refused) (r .end) (now (out .exit)) ⌝ }
 {
     match reply {
         Synthesis::Controller { header, rounds } => with_text(
@@ -93,13 +114,17 @@ fn tell<'a>(
             out,
         ),
         Synthesis::NoController { header, rounds } => {
-            six_lines(out, false, header.states, rounds, cells, flags)
+            let end = six_lines(out, false, header.states, rounds, cells, flags);
+            Answer {
+                refused: false,
+                end,
+            }
         }
-        Synthesis::Refused(r) => refusal_line(out, 0, r.table, r.number, 0),
+        Synthesis::Refused(r) => refuse(out, r),
     }
 }
 
-// Makes the sequencer of the two tables in lent buffers, and tells of it.
+// Makes the sequencer of the two tables in buffers for as many pairs as there are flags, and tells of it.
 fn make<'a>(
     m: &'a [u8],
     p: &'a [u8],
@@ -110,10 +135,9 @@ fn make<'a>(
     cells: &mut [u16],
     flags: &mut [u8],
     out: &mut [u8],
-) -> usize
-    ensures { λ r. ⌜ InOrder (controller (table a (now (ca .entry))) (table b (now (cb .entry)))) (pairsText (now (m .entry)) (now (p .entry)) (table a (now (ca .entry))) (table b (now (cb .entry))) (length (now (cells .entry))) (length (now (flags .entry)))) (now (out .entry)) r (now (out .exit)) ⌝ }
-    ensures { λ r. ⌜ now (cells .exit) ≡ synthesisCells (table a (now (ca .entry))) (table b (now (cb .entry))) (now (cells .entry)) (length (now (flags .entry))) ⌝ }
-    ensures { λ r. ⌜ now (flags .exit) ≡ synthesisFlags (table a (now (ca .entry))) (table b (now (cb .entry))) (length (now (cells .entry))) (now (flags .entry)) ⌝ }
+) -> Answer
+    requires { ⌜ length (now cells) ≡ length (now flags) * 32 ⌝ }
+    ensures { λ r. ⌜ Makes (now (m .entry)) (now (p .entry)) (table a (now (ca .entry))) (table b (now (cb .entry))) (length (now (flags .entry))) (now (out .entry)) (r .refused) (r .end) (now (cells .exit)) (now (flags .exit)) (now (out .exit)) ⌝ }
 {
     let reply = synthesis::synthesize(a, ca, b, cb, cells, flags);
     tell(m, p, reply, cells, flags, out)
@@ -139,6 +163,67 @@ fn pairs_lent(a: usize, b: usize, cells: usize, flags: usize) -> usize
     lesser(a * b, room)
 }
 
+// Copies cells to the front of a buffer that has room for them.
+fn copy(cells: &mut [u16], made: &[u16])
+    requires { ⌜ length (now made) ≤ length (now cells) ⌝ }
+    ensures { λ _. ⌜ now (cells .exit) ≡ stored (now (cells .entry)) 0 (now (made .entry)) ⌝ }
+{
+    for i in 0..made.len() {
+        cells[i] = made[i];
+    }
+}
+
+// Copies the maker's result into the lent buffers, unless the answer is a refusal.
+fn keep(refused: bool, made: &[u16], kept: &[u8], cells: &mut [u16], flags: &mut [u8])
+    requires { ⌜ length (now made) ≤ length (now cells) ⌝ }
+    ensures { λ _. ⌜ now (cells .exit) ≡ cond refused (now (cells .entry)) (stored (now (cells .entry)) 0 (now (made .entry))) ⌝ }
+    ensures { λ _. ⌜ now (flags .exit) ≡ cond refused (now (flags .entry)) (stored (now (flags .entry)) 0 (now (kept .entry))) ⌝ }
+{
+    if refused {
+        return;
+    }
+    copy(cells, made);
+    emit::put(flags, 0, kept);
+}
+
+// Room for the cells of 1,024 pairs: the maker is never lent more.
+fn own_cells() -> [u16; 32768]
+    ensures { λ r. ⌜ length r ≡ 32768 ⌝ }
+{
+    [65535u16; 32768]
+}
+
+// A flag for each of these pairs.
+fn own_flags() -> [u8; 1024]
+    ensures { λ r. ⌜ length r ≡ 1024 ⌝ }
+{
+    [0u8; 1024]
+}
+
+// Makes and tells in room of its own; the result is copied into the lent buffers only when nothing can be refused any more.
+fn make_apart<'a>(
+    m: &'a [u8],
+    p: &'a [u8],
+    a: Automaton,
+    ca: &[u16],
+    b: Automaton,
+    cb: &[u16],
+    cells: &mut [u16],
+    flags: &mut [u8],
+    out: &mut [u8],
+) -> Answer
+    requires { ⌜ a .states * b .states ≤ 16777216 ⌝ }
+    ensures { λ r. ⌜ Leaves (now (m .entry)) (now (p .entry)) (table a (now (ca .entry))) (table b (now (cb .entry))) (now (cells .entry)) (now (flags .entry)) (now (out .entry)) (r .refused) (r .end) (now (cells .exit)) (now (flags .exit)) (now (out .exit)) ⌝ }
+{
+    let n = pairs_lent(a.states, b.states, cells.len(), flags.len());
+    let ends = n * 32;
+    let mut made = own_cells();
+    let mut kept = own_flags();
+    let answer = make(m, p, a, ca, b, cb, &mut made[0..ends], &mut kept[0..n], out);
+    keep(answer.refused, &made[0..ends], &kept[0..n], cells, flags);
+    answer
+}
+
 // Makes and tells, where the cells of the two tables may stand in longer buffers.
 fn make_in<'a>(
     m: &'a [u8],
@@ -150,31 +235,32 @@ fn make_in<'a>(
     cells: &mut [u16],
     flags: &mut [u8],
     out: &mut [u8],
-) -> usize
+) -> Answer
     requires { ⌜ Holds a (now ca) ⌝ }
     requires { ⌜ Holds b (now cb) ⌝ }
-    ensures { λ r. ⌜ Makes (now (m .entry)) (now (p .entry)) (table a (take (a .states * 32) (now (ca .entry)))) (table b (take (b .states * 32) (now (cb .entry)))) (now (cells .entry)) (now (flags .entry)) (now (out .entry)) r (now (cells .exit)) (now (flags .exit)) (now (out .exit)) ⌝ }
+    ensures { λ r. ⌜ Leaves (now (m .entry)) (now (p .entry)) (table a (take (a .states * 32) (now (ca .entry)))) (table b (take (b .states * 32) (now (cb .entry)))) (now (cells .entry)) (now (flags .entry)) (now (out .entry)) (r .refused) (r .end) (now (cells .exit)) (now (flags .exit)) (now (out .exit)) ⌝ }
 {
-    let n = pairs_lent(a.states, b.states, cells.len(), flags.len());
-    let ends = n * 32;
     let ea = a.states * 32;
     let eb = b.states * 32;
-    make(
-        m,
-        p,
-        a,
-        &ca[0..ea],
-        b,
-        &cb[0..eb],
-        &mut cells[0..ends],
-        &mut flags[0..n],
-        out,
-    )
+    make_apart(m, p, a, &ca[0..ea], b, &cb[0..eb], cells, flags, out)
+}
+
+// Leaves the two tables without steps where the answer is a refusal; returns where the answer ends.
+fn settle(answer: Answer, cm: &mut [u16], cp: &mut [u16]) -> usize
+    ensures { λ r. ⌜ r ≡ answer .end ⌝ }
+    ensures { λ r. ⌜ now (cm .exit) ≡ cond (answer .refused) (replicate (length (now (cm .entry))) 65535) (now (cm .entry)) ⌝ }
+    ensures { λ r. ⌜ now (cp .exit) ≡ cond (answer .refused) (replicate (length (now (cp .entry))) 65535) (now (cp .entry)) ⌝ }
+{
+    if answer.refused {
+        automaton::clear(cm);
+        automaton::clear(cp);
+    }
+    answer.end
 }
 
 // Reads the module's and the plan's text, makes the sequencer, and writes what is to be printed; returns where that ends, one past the
 // buffer's end if it did not fit. That is 65,608 at most: 72 bytes for the six lines, 65,536 for the text. The four cell and flag buffers are
-// the program's.
+// the program's. Where the answer is a refusal, `cm` and `cp` are left without steps, and `cells` and `flags` as they were.
 pub fn report<'a>(
     m: &'a [u8],
     p: &'a [u8],
@@ -192,6 +278,9 @@ pub fn report<'a>(
         Together::Tables {
             component,
             specification,
-        } => make_in(m, p, component, cm, specification, cp, cells, flags, out),
+        } => {
+            let answer = make_in(m, p, component, cm, specification, cp, cells, flags, out);
+            settle(answer, cm, cp)
+        }
     }
 }

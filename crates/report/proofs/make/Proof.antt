@@ -1,4 +1,4 @@
-use Rattle.report.proofs.Made.{pairs-told}
+use Rattle.report.proofs.Made.{pairs-made}
 use borrow.Author.Needs.{needs}
 use Rattle.report.proofs.make.Statement.{statement}
 use Rattle.report.proofs.make.Tie as tie
@@ -24,9 +24,8 @@ same-length-3 c = search needs
 
 returns : tie.Need-returns
 returns c =
-    let f = c .before .before in
-    let s = f .before .before .before .before .before .before .before .before .synthesize .ensures in
-    (pairs-told _ _ _ _ _ _ _ _ _ (s .0) (s .1 .0) (s .1 .1 .0) _ _ _ (f .tell .ensures), (s .1 .0, s .1 .1 .0))
+    let s = c .before .before .before .before .before .before .before .before .before .before .synthesize .ensures in
+    pairs-made _ _ _ _ _ _ _ _ (c .before .before .before .before .before .before .before .before .before .before .before .before .before .before .before .before .before .before .before .before .pre) _ (s .0) (s .1 .0) (s .1 .1 .0) _ _ _ _ (c .before .before .tell .ensures)
 
 pub make-spec : {M : Type 1} → statement M
 make-spec =

@@ -5,7 +5,7 @@ use Rattle.report.proofs.put_text.Tie as tie
 use Rattle.report.proofs.put_text.Reads as reads
 use Rattle.report.proofs.put_text.Lts as lts
 use Rattle.emit.proofs.put.Reads as put-reads
-use Rattle.printout.proofs.refusal_line.Reads as refusal-line-reads
+use Rattle.report.proofs.refuse.Reads as refuse-reads
 use Rattle.report.proofs.six_lines.Reads as six-lines-reads
 use Rattle.labels.proofs.write_text.Reads as write-text-reads
 
@@ -15,8 +15,8 @@ write-text-requires c κs = search needs
 enum-known-r : tie.Need-enum-known-r
 enum-known-r c = search needs
 
-refusal-line-requires : tie.Need-refusal-line-requires
-refusal-line-requires c κs = search needs
+refuse-requires : tie.Need-refuse-requires
+refuse-requires c κs = search needs
 
 enum-known-n : tie.Need-enum-known-n
 enum-known-n c = search needs
@@ -66,7 +66,7 @@ put-text-spec =
     (tie.spec
     write-text-requires
     enum-known-r
-    refusal-line-requires
+    refuse-requires
     enum-known-n
     six-lines-requires
     sub-put

@@ -4,7 +4,7 @@ use Rattle.report.proofs.tell.Statement.{statement}
 use Rattle.report.proofs.tell.Tie as tie
 use Rattle.report.proofs.tell.Reads as reads
 use Rattle.report.proofs.tell.Lts as lts
-use Rattle.printout.proofs.refusal_line.Reads as refusal-line-reads
+use Rattle.report.proofs.refuse.Reads as refuse-reads
 use Rattle.report.proofs.six_lines.Reads as six-lines-reads
 use Rattle.report.proofs.with_text.Reads as with-text-reads
 
@@ -23,8 +23,8 @@ six-lines-requires c κs = search needs
 enum-known-reply-3 : tie.Need-enum-known-reply-3
 enum-known-reply-3 c = search needs
 
-refusal-line-requires : tie.Need-refusal-line-requires
-refusal-line-requires c κs = search needs
+refuse-requires : tie.Need-refuse-requires
+refuse-requires c κs = search needs
 
 same-length : tie.Need-same-length
 same-length c = search needs
@@ -32,7 +32,7 @@ same-length c = search needs
 returns : tie.Need-returns
 returns c =
     let f = c .before .before in
-    tell-yes _ _ _ _ _ _ _ _ _ _ (f .before .before .before .reply .given .1) (f .with-text .ensures)
+    tell-yes _ _ _ _ _ _ _ _ _ _ (f .before .before .before .reply .given .1) _ (f .with-text .ensures)
 
 same-length-2 : tie.Need-same-length-2
 same-length-2 c = search needs
@@ -48,7 +48,7 @@ same-length-3 c = search needs
 returns-3 : tie.Need-returns-3
 returns-3 c =
     let f = c .before .before in
-    tell-refused _ _ _ _ _ _ _ _ _ (f .before .before .before .reply3 .given .1) (f .refusal-line .ensures .0, f .refusal-line .ensures .1 .0)
+    tell-refused _ _ _ _ _ _ _ _ _ (f .before .before .before .reply3 .given .1) _ (f .refuse .ensures .0) (f .refuse .ensures .1)
 
 pub tell-spec : {M : Type 1} → statement M
 tell-spec =
@@ -59,7 +59,7 @@ tell-spec =
     enum-known-reply-2
     six-lines-requires
     enum-known-reply-3
-    refusal-line-requires
+    refuse-requires
     same-length
     returns
     same-length-2

@@ -1,0 +1,30 @@
+use Rattle.report.proofs.Whole.{on-false}
+use borrow.Author.Needs.{needs}
+use Rattle.report.proofs.keep.Statement.{statement}
+use Rattle.report.proofs.keep.Tie as tie
+use Rattle.report.proofs.keep.Reads as reads
+use Rattle.report.proofs.keep.Lts as lts
+use Rattle.emit.proofs.put.Reads as put-reads
+use Rattle.report.proofs.copy.Reads as copy-reads
+
+returns : tie.Need-returns
+returns c = search needs
+
+copy-requires : tie.Need-copy-requires
+copy-requires c κs = search needs
+
+put-requires : tie.Need-put-requires
+put-requires c κs = search needs
+
+same-length : tie.Need-same-length
+same-length c = search needs
+
+same-length-2 : tie.Need-same-length-2
+same-length-2 c = search needs
+
+returns-2 : tie.Need-returns-2
+returns-2 c = (on-false _ _ _ _ (c .before .before .before .before .before .before .before .before .if1 .left) (c .before .before .before .before .before .before .copy .ensures), on-false _ _ _ _ (c .before .before .before .before .before .before .before .before .if1 .left) (c .before .before .put .ensures .1))
+
+pub keep-spec : {M : Type 1} → statement M
+keep-spec =
+    tie.close (tie.spec returns copy-requires put-requires same-length same-length-2 returns-2)
