@@ -14,7 +14,7 @@ use borrow.Author.Tests.{le-leb, lt-leb}
 use Rattle.theory.specs.declared.Automaton.{Automaton}
 use Rattle.theory.specs.declared.Checked.{Checked}
 use Rattle.theory.specs.declared.Checked.the-variants.{Accepted, Refused}
-use Rattle.theory.specs.Table.{Table, table, synthesis}
+use Rattle.theory.specs.Table.{Table, table}
 use Rattle.theory.specs.Checks.{first, unlessRefused}
 use Rattle.text.specs.declared.TextRefusal.{TextRefusal}
 use Rattle.text.specs.Reading.{Reading, Joint, both, neither, readBoth, cellsFirst, cellsSecond, tableRead}
@@ -27,8 +27,8 @@ use Rattle.reader.specs.declared.Together.{Together}
 use Rattle.reader.specs.declared.Together.the-variants as together
 use Rattle.reader.specs.Replies.{togetherReply}
 use Rattle.printout.specs.Lines.{refusalText}
-use Rattle.report.specs.Report.{lesserOf, roomOf, reportChecks, unlessRefusal, reportWith, printedTable, Reported}
-use Rattle.report.specs.Parts.{isRefused, Makes, Holds, Leaves, pairsFor}
+use Rattle.report.specs.Report.{lesserOf, roomOf, reportChecks, reportWith, printedTable, Reported, Told}
+use Rattle.report.specs.Parts.{isRefused, Makes, Holds, Fitting, Leaves, pairsFor}
 
 -- ---- the lesser of two numbers
 
@@ -53,12 +53,6 @@ few-pairs a b ca cb h k = mul-le-mul (h .few) (k .few)
 pub lent-is : (a b cells flags lent room n : ℕ) → lent ≡ lesserOf (cells / 32) flags → room ≡ lesserOf lent 1024 → n ≡ lesserOf (a * b) room
     → n ≡ lesserOf (a * b) (roomOf cells flags)
 lent-is a b cells flags lent room n e f g = g ∙ ap (lesserOf (a * b)) (f ∙ ap (λ k. lesserOf k 1024) e)
-
--- As many pairs as are lent fit the lent buffers, and room for 1,024.
-pub record Fitting (cells flags n : ℕ) : Type 0 where
-  pub cells-fit : n * 32 ≤ cells
-  pub flags-fit : n ≤ flags
-  pub own : n ≤ 1024
 
 pub lent-fits : (pairs cells flags n : ℕ) → n ≡ lesserOf pairs (roomOf cells flags) → Fitting cells flags n
 lent-fits pairs cells flags n n-lent =
@@ -140,29 +134,31 @@ joint-tables : (j : Joint) (a b : Automaton) → togetherReply j ≡ together.Ta
 joint-tables (both x y) a b e = record { first = x; second = y; are = refl; header = cc; header′ = cc }
 joint-tables (neither s) a b e = absurd (let z : _≡_ {A = ℕ} 0 1 = cc in omega arith)
 
-module _ (c c′ : ℕ) (m p cm cp : List ℕ) (k : Together) (replied : k ≡ togetherReply (readBoth c m c′ p))
-    (first-left : cm ≡ cellsFirst c (readBoth c m c′ p)) (second-left : cp ≡ cellsSecond c′ (readBoth c m c′ p)) where
+module _ (cm₀ cp₀ m p cm cp : List ℕ) (k : Together) (replied : k ≡ togetherReply (readBoth (length cm₀) m (length cp₀) p))
+    (first-left : cm ≡ cellsFirst (length cm₀) (readBoth (length cm₀) m (length cp₀) p))
+    (second-left : cp ≡ cellsSecond (length cp₀) (readBoth (length cm₀) m (length cp₀) p)) where
   abbrev j : Joint
-  j = readBoth c m c′ p
+  j = readBoth (length cm₀) m (length cp₀) p
 
   module _ (r : TextRefusal) (no : k ≡ together.Refused r) where
     none : j ≡ neither r
     none = joint-refused j r (sym replied ∙ no)
 
-    pub report-refused : (pairs : ℕ) (out : List ℕ) (e : ℕ) (out′ : List ℕ) → Puts out 0 (refusalText (r .text) (r .number) (r .line)) e out′
-        → Reported m p c c′ pairs out e out′
+    line-put : (pairs : ℕ) (out : List ℕ) (e : ℕ) (out′ : List ℕ) → Puts out 0 (refusalText (r .text) (r .number) (r .line)) e out′
+        → Reported m p (length cm₀) (length cp₀) pairs out e out′
     unfolding reportWith
-    report-refused pairs out e out′ (u, v) =
+    line-put pairs out e out′ (u, v) =
         record { order = ascending (printedTable j); each-once = ascending-order (printedTable j); text = rw none v; ends = rw none u }
 
-    pub module-none : (pairs : ℕ) → cm ≡ unlessRefusal m p pairs j (replicate c 65535) (λ x y. x .cells)
-    module-none pairs = first-left ∙ rw none
-
-    pub plan-none : (pairs : ℕ) → cp ≡ unlessRefusal m p pairs j (replicate c′ 65535) (λ x y. y .cells)
-    plan-none pairs = second-left ∙ rw none
-
-    pub result-kept : (pairs : ℕ) (l : List ℕ) (f : Reading → Reading → List ℕ) → l ≡ unlessRefusal m p pairs j l f
-    result-kept pairs l f = rw none
+    pub told-refused : (cells flags out : List ℕ) (e : ℕ) (out′ : List ℕ) → Puts out 0 (refusalText (r .text) (r .number) (r .line)) e out′
+        → Told m p cm₀ cp₀ cells flags out e cm cp cells flags out′
+    told-refused cells flags out e out′ w = record {
+      told = line-put _ out e out′ w;
+      module-left = first-left ∙ rw none;
+      plan-left = second-left ∙ rw none;
+      cells-left = rw none;
+      flags-left = rw none;
+    }
 
   module _ (a b : Automaton) (yes : k ≡ together.Tables a b) where
     given : Tables j a b
@@ -174,24 +170,27 @@ module _ (c c′ : ℕ) (m p cm cp : List ℕ) (k : Together) (replied : k ≡ t
     abbrev y : Reading
     y = given .second
 
-    sound : accepted.Accepted c c′ x y
-    sound = accepted.accepted-both c m c′ p x y (given .are)
+    sound : accepted.Accepted (length cm₀) (length cp₀) x y
+    sound = accepted.accepted-both (length cm₀) m (length cp₀) p x y (given .are)
 
     first-cells : cm ≡ x .cells
-    first-cells = first-left ∙ ap (cellsFirst c) (given .are)
+    first-cells = first-left ∙ ap (cellsFirst (length cm₀)) (given .are)
 
     second-cells : cp ≡ y .cells
-    second-cells = second-left ∙ ap (cellsSecond c′) (given .are)
+    second-cells = second-left ∙ ap (cellsSecond (length cp₀)) (given .are)
 
-    pub holds-first : Holds a cm
+    holds-first : Holds a cm
     holds-first =
         let n : a .states ≡ x .header .states = ap (λ (h : Automaton). h .states) (given .header) in
         record { few = omega (arith, sound .first .few-states); room = omega (arith, ap length first-cells, sound .first .fits, sound .first .size) }
 
-    pub holds-second : Holds b cp
+    holds-second : Holds b cp
     holds-second =
         let n : b .states ≡ y .header .states = ap (λ (h : Automaton). h .states) (given .header′) in
         record { few = omega (arith, sound .second .few-states); room = omega (arith, ap length second-cells, sound .second .fits, sound .second .size) }
+
+    pub holds-both : Holds a cm × Holds b cp
+    holds-both = (holds-first, holds-second)
 
     first-table : table a (take (a .states * 32) cm) ≡ tableRead x
     first-table = λ i. table (given .header i) (take (given .header i .states * 32) (first-cells i))
@@ -210,29 +209,24 @@ module _ (c c′ : ℕ) (m p cm cp : List ℕ) (k : Together) (replied : k ≡ t
       made : Leaves m p (tableRead x) (tableRead y) cells flags out refused e cells′ flags′ out′
       made = rw (first-table, second-table) at leaves
 
-      pub report-made : (end : ℕ) → end ≡ e → Reported m p c c′ pairs out end out′
+      made-put : Reported m p (length cm₀) (length cp₀) pairs out e out′
       unfolding reportWith
-      report-made end f = record {
+      made-put = record {
         order = made .told .order;
         each-once = rw (given .are) (made .told .each-once);
         text = rw (given .are) (made .told .text);
-        ends = rw (given .are) (f ∙ made .told .ends);
+        ends = rw (given .are) (made .told .ends);
       }
 
-      pub module-made : (cm′ : List ℕ) → cm′ ≡ cond refused (replicate (length cm) 65535) cm
-          → cm′ ≡ unlessRefusal m p pairs j (replicate c 65535) (λ x y. x .cells)
-      module-made cm′ u =
-          let n : length cm ≡ c = ap length first-cells ∙ sound .first .size in
-          rw (given .are) (u ∙ rw n (left-by checked refused (made .refuses) _ cm _ (λ q. first-cells)))
-
-      pub plan-made : (cp′ : List ℕ) → cp′ ≡ cond refused (replicate (length cp) 65535) cp
-          → cp′ ≡ unlessRefusal m p pairs j (replicate c′ 65535) (λ x y. y .cells)
-      plan-made cp′ u =
-          let n : length cp ≡ c′ = ap length second-cells ∙ sound .second .size in
-          rw (given .are) (u ∙ rw n (left-by checked refused (made .refuses) _ cp _ (λ q. second-cells)))
-
-      pub cells-made : cells′ ≡ unlessRefusal m p pairs j cells (λ x y. stored cells 0 (synthesis (tableRead x) (tableRead y) .cells))
-      cells-made = rw (given .are) (made .cells-left)
-
-      pub flags-made : flags′ ≡ unlessRefusal m p pairs j flags (λ x y. stored flags 0 (synthesis (tableRead x) (tableRead y) .flags))
-      flags-made = rw (given .are) (made .flags-left)
+      pub told-made : (cm′ cp′ : List ℕ) → cm′ ≡ cond refused (replicate (length cm) 65535) cm → cp′ ≡ cond refused (replicate (length cp) 65535) cp
+          → Told m p cm₀ cp₀ cells flags out e cm′ cp′ cells′ flags′ out′
+      told-made cm′ cp′ u v =
+          let n : length cm ≡ length cm₀ = ap length first-cells ∙ sound .first .size in
+          let n′ : length cp ≡ length cp₀ = ap length second-cells ∙ sound .second .size in
+          record {
+            told = made-put;
+            module-left = rw (given .are) (u ∙ rw n (left-by checked refused (made .refuses) _ cm _ (λ q. first-cells)));
+            plan-left = rw (given .are) (v ∙ rw n′ (left-by checked refused (made .refuses) _ cp _ (λ q. second-cells)));
+            cells-left = rw (given .are) (made .cells-left);
+            flags-left = rw (given .are) (made .flags-left);
+          }

@@ -82,6 +82,12 @@ pub record Holds (h : Automaton) (cells : List ℕ) : Type 0 where
   pub few : h .states ≤ 4096
   pub room : h .states * 32 ≤ length cells
 
+-- As many pairs as are lent fit the lent buffers, and room for 1,024.
+pub record Fitting (cells flags n : ℕ) : Type 0 where
+  pub cells-fit : n * 32 ≤ cells
+  pub flags-fit : n ≤ flags
+  pub own : n ≤ 1024
+
 -- How many pairs the maker is lent, where these buffers are lent for the result.
 abbrev pub pairsFor : Table → Table → List ℕ → List ℕ → ℕ
 pairsFor a b cells flags = lentPairs a b (roomOf (length cells) (length flags))

@@ -7,7 +7,7 @@ ghost use Rattle.theory.specs.Table.{table};
 ghost use Rattle.emit.specs.Buffer.{after, stored};
 ghost use Rattle.printout.specs.Lines.{refusalText};
 ghost use Rattle.report.specs.Report.{lesserOf, roomOf, Told};
-ghost use Rattle.report.specs.Parts.{sixOf, WithText, Tells, Makes, Holds, Leaves};
+ghost use Rattle.report.specs.Parts.{sixOf, WithText, Tells, Makes, Holds, Fitting, Leaves};
 use printout::refusal_line;
 use reader::Together;
 use synthesis::Synthesis;
@@ -157,6 +157,7 @@ fn lesser(a: usize, b: usize) -> usize
 fn pairs_lent(a: usize, b: usize, cells: usize, flags: usize) -> usize
     requires { ⌜ a * b ≤ 16777216 ⌝ }
     ensures { λ r. ⌜ r ≡ lesserOf (a * b) (roomOf cells flags) ⌝ }
+    ensures { λ r. ⌜ Fitting cells flags r ⌝ }
 {
     let lent = lesser(cells / 32, flags);
     let room = lesser(lent, 1024);
@@ -245,17 +246,13 @@ fn make_in<'a>(
     make_apart(m, p, a, &ca[0..ea], b, &cb[0..eb], cells, flags, out)
 }
 
-// Leaves the two tables without steps where the answer is a refusal; returns where the answer ends.
-fn settle(answer: Answer, cm: &mut [u16], cp: &mut [u16]) -> usize
-    ensures { λ r. ⌜ r ≡ answer .end ⌝ }
-    ensures { λ r. ⌜ now (cm .exit) ≡ cond (answer .refused) (replicate (length (now (cm .entry))) 65535) (now (cm .entry)) ⌝ }
-    ensures { λ r. ⌜ now (cp .exit) ≡ cond (answer .refused) (replicate (length (now (cp .entry))) 65535) (now (cp .entry)) ⌝ }
+// Leaves a table without steps where the answer is a refusal.
+fn clear_if(refused: bool, cells: &mut [u16])
+    ensures { λ _. ⌜ now (cells .exit) ≡ cond refused (replicate (length (now (cells .entry))) 65535) (now (cells .entry)) ⌝ }
 {
-    if answer.refused {
-        automaton::clear(cm);
-        automaton::clear(cp);
+    if refused {
+        automaton::clear(cells);
     }
-    answer.end
 }
 
 // Reads the module's and the plan's text, makes the sequencer, and writes what is to be printed; returns where that ends, one past the
@@ -280,7 +277,9 @@ pub fn report<'a>(
             specification,
         } => {
             let answer = make_in(m, p, component, cm, specification, cp, cells, flags, out);
-            settle(answer, cm, cp)
+            clear_if(answer.refused, cm);
+            clear_if(answer.refused, cp);
+            answer.end
         }
     }
 }

@@ -23,7 +23,11 @@ same-length-2 : tie.Need-same-length-2
 same-length-2 c = search needs
 
 returns-2 : tie.Need-returns-2
-returns-2 c = (on-false _ _ _ _ (c .before .before .before .before .before .before .before .before .if1 .left) (c .before .before .before .before .before .before .copy .ensures), on-false _ _ _ _ (c .before .before .before .before .before .before .before .before .if1 .left) (c .before .before .put .ensures .1))
+returns-2 c =
+    let p = c .before .before in
+    let k = p .before .before .before .before in
+    let no = k .before .before .if1 .left in
+    (on-false _ _ _ _ no (k .copy .ensures), on-false _ _ _ _ no (p .put .ensures .1))
 
 pub keep-spec : {M : Type 1} → statement M
 keep-spec =

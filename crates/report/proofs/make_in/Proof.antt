@@ -1,7 +1,7 @@
 use Prim.Native.Nat.{_*_, _-_}
+use native.Mathlib.Omega.{arith}
 use denote.Ref.{now}
 use Rattle.report.proofs.Whole.{few-pairs, leaves-read}
-use native.Mathlib.Omega.{arith}
 use borrow.Author.Needs.{needs}
 use Rattle.report.proofs.make_in.Statement.{statement}
 use Rattle.report.proofs.make_in.Tie as tie
@@ -47,8 +47,10 @@ same-length-3 c = search needs
 
 returns : tie.Need-returns
 returns c =
-    let s = c .before .before .before .before .before .before .before .before .before .before .before .before .before .before .before .before .before .before .before .before .before .args in
-    leaves-read _ _ (s .a) (s .b) (now (s .ca)) (now (s .cb)) (s .a .states * 32 - 0) (s .b .states * 32 - 0) (omega arith) (omega arith) _ _ _ _ _ _ _ _ (c .before .before .before .before .before .before .make-apart .ensures)
+    let m = c .before .before .before .before .before .before in
+    let s = m .before .before .before .before .before .before .before .before .before .before .before .before .before .before .before .args in
+    leaves-read _ _ (s .a) (s .b) (now (s .ca)) (now (s .cb)) (s .a .states * 32 - 0) (s .b .states * 32 - 0) (omega arith) (omega arith) _ _ _ _ _ _ _ _
+    (m .make-apart .ensures)
 
 pub make-in-spec : {M : Type 1} → statement M
 make-in-spec =

@@ -1,5 +1,6 @@
+use denote.Ref.{now}
+use Rattle.report.proofs.Whole.{holds-both, told-refused, told-made}
 use Rattle.report.proofs.Short.{report-ends}
-use Rattle.report.proofs.Whole.{report-refused, module-none, plan-none, result-kept, holds-first, holds-second, report-made, module-made, plan-made, cells-made, flags-made}
 use borrow.Author.Needs.{needs}
 use Rattle.report.proofs.report.Statement.{statement}
 use Rattle.report.proofs.report.Tie as tie
@@ -7,8 +8,8 @@ use Rattle.report.proofs.report.Reads as reads
 use Rattle.report.proofs.report.Lts as lts
 use Rattle.printout.proofs.refusal_line.Reads as refusal-line-reads
 use Rattle.reader.proofs.read_together.Reads as read-together-reads
+use Rattle.report.proofs.clear_if.Reads as clear-if-reads
 use Rattle.report.proofs.make_in.Reads as make-in-reads
-use Rattle.report.proofs.settle.Reads as settle-reads
 
 read-together-requires : tie.Need-read-together-requires
 read-together-requires c κs = search needs
@@ -24,12 +25,17 @@ enum-known-component c = search needs
 
 make-in-requires : tie.Need-make-in-requires
 make-in-requires c κs =
-    let r = c .before .before .before .before .before .before .before .before .before .before .before .before .read-together .ensures in
-    let yes = c .before .before .before .before .before .before .component .given .1 in
-    (holds-first _ _ _ _ _ _ _ (r .0) (r .1 .0) (r .1 .1) _ _ yes, holds-second _ _ _ _ _ _ _ (r .0) (r .1 .0) (r .1 .1) _ _ yes)
+    let k = c .before .before .before .before .before .before in
+    let q = k .before .before .before .before .before .before in
+    let s = q .before .before .before .before .before .before .before .before .before .before .args in
+    let r = q .read-together .ensures in
+    holds-both (now (s .cm)) (now (s .cp)) (now (s .m)) (now (s .p)) _ _ _ (r .0) (r .1 .0) (r .1 .1) _ _ (k .component .given .1)
 
-settle-requires : tie.Need-settle-requires
-settle-requires c κs = search needs
+clear-if-requires : tie.Need-clear-if-requires
+clear-if-requires c κs = search needs
+
+clear-if-requires-2 : tie.Need-clear-if-requires-2
+clear-if-requires-2 c κs = search needs
 
 same-length : tie.Need-same-length
 same-length c = search needs
@@ -42,19 +48,11 @@ same-length-3 c = search needs
 
 returns : tie.Need-returns
 returns c =
-    let r = c .before .before .before .before .before .before .before .before .before .before .before .read-together .ensures in
-    let no = c .before .before .before .before .before .r .given .1 in
-    let f = c .before .before .refusal-line .ensures in
-    let w = report-refused _ _ _ _ _ _ _ (r .0) (r .1 .0) (r .1 .1) _ no _ _ _ _ (f .0, f .1 .0) in (
-      record {
-        told = w;
-        module-left = module-none _ _ _ _ _ _ _ (r .0) (r .1 .0) (r .1 .1) _ no _;
-        plan-left = plan-none _ _ _ _ _ _ _ (r .0) (r .1 .0) (r .1 .1) _ no _;
-        cells-left = result-kept _ _ _ _ _ _ _ (r .0) (r .1 .0) (r .1 .1) _ no _ _ _;
-        flags-left = result-kept _ _ _ _ _ _ _ (r .0) (r .1 .0) (r .1 .1) _ no _ _ _;
-      },
-      report-ends w,
-    )
+    let f = c .before .before in
+    let k = f .before .before .before in
+    let r = k .before .before .before .before .before .before .read-together .ensures in
+    let t = told-refused _ _ _ _ _ _ _ (r .0) (r .1 .0) (r .1 .1) _ (k .r .given .1) _ _ _ _ _ (f .refusal-line .ensures .0, f .refusal-line .ensures .1 .0) in
+    (t, report-ends (t .told))
 
 same-length-4 : tie.Need-same-length-4
 same-length-4 c = search needs
@@ -73,20 +71,13 @@ same-length-8 c = search needs
 
 returns-2 : tie.Need-returns-2
 returns-2 c =
-    let r = c .before .before .before .before .before .before .before .before .before .before .before .before .before .before .before .before .before .before .before .before .before .before .before .before .before .before .read-together .ensures in
-    let yes = c .before .before .before .before .before .before .before .before .before .before .before .before .before .before .before .before .before .before .before .before .component .given .1 in
-    let l = c .before .before .before .before .before .before .before .before .before .before .before .before .before .make-in .ensures in
-    let t = c .before .before .before .before .settle .ensures in
-    let w = report-made _ _ _ _ _ _ _ (r .0) (r .1 .0) (r .1 .1) _ _ yes _ _ _ _ _ _ _ _ l _ (t .0) in (
-      record {
-        told = w;
-        module-left = module-made _ _ _ _ _ _ _ (r .0) (r .1 .0) (r .1 .1) _ _ yes _ _ _ _ _ _ _ _ l _ (t .1 .0);
-        plan-left = plan-made _ _ _ _ _ _ _ (r .0) (r .1 .0) (r .1 .1) _ _ yes _ _ _ _ _ _ _ _ l _ (t .1 .1);
-        cells-left = cells-made _ _ _ _ _ _ _ (r .0) (r .1 .0) (r .1 .1) _ _ yes _ _ _ _ _ _ _ _ l;
-        flags-left = flags-made _ _ _ _ _ _ _ (r .0) (r .1 .0) (r .1 .1) _ _ yes _ _ _ _ _ _ _ _ l;
-      },
-      report-ends w,
-    )
+    let f = c .before .before in
+    let g = f .before .before .before .before in
+    let h = g .before .before .before .before .before .before .before .before in
+    let k = h .before .before .before .before .before .before .before in
+    let r = k .before .before .before .before .before .before .read-together .ensures in
+    let t = told-made _ _ _ _ _ _ _ (r .0) (r .1 .0) (r .1 .1) _ _ (k .component .given .1) _ _ _ _ _ _ _ _ (h .make-in .ensures) _ _ (g .clear-if .ensures) (f .clear-if2 .ensures) in
+    (t, report-ends (t .told))
 
 pub report-spec : {M : Type 1} → statement M
 report-spec =
@@ -97,7 +88,8 @@ report-spec =
     refusal-line-requires
     enum-known-component
     make-in-requires
-    settle-requires
+    clear-if-requires
+    clear-if-requires-2
     same-length
     same-length-2
     same-length-3

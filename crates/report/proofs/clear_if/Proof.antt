@@ -1,0 +1,22 @@
+use Rattle.report.proofs.Whole.{on-true}
+use borrow.Author.Needs.{needs}
+use Rattle.report.proofs.clear_if.Statement.{statement}
+use Rattle.report.proofs.clear_if.Tie as tie
+use Rattle.report.proofs.clear_if.Reads as reads
+use Rattle.report.proofs.clear_if.Lts as lts
+use Rattle.automaton.proofs.clear.Reads as clear-reads
+
+clear-requires : tie.Need-clear-requires
+clear-requires c κs = search needs
+
+same-length : tie.Need-same-length
+same-length c = search needs
+
+returns : tie.Need-returns
+returns c = on-true _ _ _ _ (c .before .before .before .before .if1 .taken) (c .before .before .clear .ensures)
+
+returns-2 : tie.Need-returns-2
+returns-2 c = search needs
+
+pub clear-if-spec : {M : Type 1} → statement M
+clear-if-spec = tie.close (tie.spec clear-requires same-length returns returns-2)
