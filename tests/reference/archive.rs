@@ -1,5 +1,6 @@
 //! The two archives under test: what they declare, and a safe wrapper for each call, of the same shape as the reference's own.
 
+use crate::program::Buffers;
 use crate::reply::Reply;
 use crate::table::Table;
 
@@ -152,22 +153,13 @@ pub fn write(t: &Table, name: &[u8], names: &[&[u8]], out: &mut [u8]) -> Reply {
     }
 }
 
-/// The buffers that the program lends to its report, and what it prints.
-pub struct Buffers {
-    pub module_cells: Vec<u16>,
-    pub plan_cells: Vec<u16>,
-    pub cells: Vec<u16>,
-    pub flags: Vec<u8>,
-    pub out: Vec<u8>,
-}
-
 /// How many bytes of `out` the program prints.
-pub fn report(module: &[u8], plan: &[u8], lent: &mut Buffers) -> usize {
+pub fn report(module: &[u8], plan: &[u8], lent: &mut Buffers, out: &mut [u8]) -> usize {
+    let (to_m, to_p, cells, flags) = (lent.module_cells.part(), lent.plan_cells.part(), lent.cells.part(), lent.flags.part());
     unsafe {
         harness_report(
-            module.as_ptr(), module.len(), plan.as_ptr(), plan.len(),
-            lent.module_cells.as_mut_ptr(), lent.module_cells.len(), lent.plan_cells.as_mut_ptr(), lent.plan_cells.len(),
-            lent.cells.as_mut_ptr(), lent.cells.len(), lent.flags.as_mut_ptr(), lent.flags.len(), lent.out.as_mut_ptr(), lent.out.len())
+            module.as_ptr(), module.len(), plan.as_ptr(), plan.len(), to_m.as_mut_ptr(), to_m.len(), to_p.as_mut_ptr(), to_p.len(),
+            cells.as_mut_ptr(), cells.len(), flags.as_mut_ptr(), flags.len(), out.as_mut_ptr(), out.len())
     }
 }
 

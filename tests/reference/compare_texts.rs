@@ -1,7 +1,7 @@
 //! Table text: reading, lookup, writing and the program's report, the archive against the reference.
 
 use crate::lent::Lent;
-use crate::program::{self, Room, PROGRAM};
+use crate::program::{self, Buffers, Room, PROGRAM};
 use crate::random::Random;
 use crate::random_tables::{damage, module_and_plan, sizes, table_of_text_length};
 use crate::random_texts::{borrowed, good_names, text_pair};
@@ -215,20 +215,18 @@ fn compare_report(tally: &mut Tally, r: &mut Random, what: &str) {
         1 => MORE_ROOM,
         _ => PROGRAM,
     };
-    let expected = program::print(Some(&module), Some(&plan), &room);
-    let mut lent = archive::Buffers {
-        module_cells: vec![NO_STEP; room.module_cells],
-        plan_cells: vec![NO_STEP; room.plan_cells],
-        cells: vec![NO_STEP; room.cells],
-        flags: vec![0; room.flags],
-        out: vec![0; REPORT_BYTES],
-    };
-    let length = archive::report(&module, &plan, &mut lent).min(REPORT_BYTES);
-    let (printed, rest) = lent.out.split_at(length);
-    tally.saw(&format!("report: {}", headline(&expected)));
-    let same = up_to_order(&expected) == up_to_order(printed) && rest.iter().all(|&byte| byte == 0);
-    tally.check(same, || {
-        format!("{what}: report\n  {}\n  {}\n  expected {}\n  is       {}", shown(&module), shown(&plan), shown(&expected), shown(printed))
+    let mut expected = Buffers::arbitrary(r, &room);
+    let mut actual = expected.clone();
+    let mut out = vec![0; REPORT_BYTES];
+    let text = program::report(&module, &plan, &mut expected);
+    let length = archive::report(&module, &plan, &mut actual, &mut out).min(REPORT_BYTES);
+    let (printed, rest) = out.split_at(length);
+    tally.saw(&format!("report: {}", headline(&text)));
+    let same_text = up_to_order(&text) == up_to_order(printed) && rest.iter().all(|&byte| byte == 0);
+    tally.check(same_text && expected == actual, || {
+        let (module, plan, text, printed) = (shown(&module), shown(&plan), shown(&text), shown(printed));
+        let buffers = expected.differences(&actual);
+        format!("{what}: report\n  {module}\n  {plan}\n  expected {text}\n  is       {printed}\n  buffers {buffers:?}")
     });
 }
 

@@ -1,9 +1,11 @@
-//! What the program prints, from the bytes of its two files.
+//! What the program prints, from the bytes of its two files, and what its report leaves in the buffers that it is lent.
 
 use crate::calls::{count_ends, count_kept, count_steps, synthesize};
+use crate::lent::Lent;
+use crate::random::Random;
 use crate::reply::Reply;
 use crate::table::{Table, SIGNALS};
-use crate::text::{read_both, MODULE, PLAN};
+use crate::text::{fill, read_both, MODULE, PLAN};
 use crate::writer::{digits, line, write};
 
 const TEXT_BYTES: usize = 65_536;
@@ -22,12 +24,71 @@ pub struct Room {
 /// Every cell buffer of the program has 32,768 cells.
 pub const PROGRAM: Room = Room { module_cells: 32_768, plan_cells: 32_768, cells: 32_768, flags: 1_024 };
 
-/// A file that can't be read is `None`.
-pub fn print(module: Option<&[u8]>, plan: Option<&[u8]>, room: &Room) -> Vec<u8> {
-    report(module, plan, room).unwrap_or_else(|refusal| refusal_line(&refusal))
+/// The cells lent for module, plan and result, and the flags lent for the result.
+#[derive(Clone, PartialEq, Eq)]
+pub struct Buffers {
+    pub module_cells: Lent<u16>,
+    pub plan_cells: Lent<u16>,
+    pub cells: Lent<u16>,
+    pub flags: Lent<u8>,
 }
 
-fn report(module: Option<&[u8]>, plan: Option<&[u8]>, room: &Room) -> Result<Vec<u8>, Reply> {
+impl Buffers {
+    pub fn arbitrary(r: &mut Random, room: &Room) -> Buffers {
+        Buffers {
+            module_cells: Lent::arbitrary(r, room.module_cells),
+            plan_cells: Lent::arbitrary(r, room.plan_cells),
+            cells: Lent::arbitrary(r, room.cells),
+            flags: Lent::arbitrary(r, room.flags),
+        }
+    }
+
+    fn room(&self) -> Room {
+        Room { module_cells: self.module_cells.len(), plan_cells: self.plan_cells.len(), cells: self.cells.len(), flags: self.flags.len() }
+    }
+
+    /// Where each buffer first differs from its fellow.
+    pub fn differences(&self, other: &Buffers) -> [Option<String>; 4] {
+        [
+            self.module_cells.difference(&other.module_cells),
+            self.plan_cells.difference(&other.plan_cells),
+            self.cells.difference(&other.cells),
+            self.flags.difference(&other.flags),
+        ]
+    }
+}
+
+/// What comes of two texts that no check refuses.
+struct Made {
+    module: Table,
+    plan: Table,
+    cells: Vec<u16>,
+    flags: Vec<u8>,
+    printed: Vec<u8>,
+}
+
+/// A file that can't be read is `None`.
+pub fn print(module: Option<&[u8]>, plan: Option<&[u8]>, room: &Room) -> Vec<u8> {
+    make(module, plan, room).map_or_else(|refusal| refusal_line(&refusal), |made| made.printed)
+}
+
+/// What is printed for two texts. The tables read and the result are left in the buffers; a refusal, of the reading or after it, leaves both
+/// tables without steps, and the result's buffers as they were.
+pub fn report(module: &[u8], plan: &[u8], lent: &mut Buffers) -> Vec<u8> {
+    let outcome = make(Some(module), Some(plan), &lent.room());
+    fill(lent.module_cells.part(), outcome.as_ref().ok().map(|made| &made.module));
+    fill(lent.plan_cells.part(), outcome.as_ref().ok().map(|made| &made.plan));
+    match outcome {
+        Err(refusal) => refusal_line(&refusal),
+        Ok(made) => {
+            lent.cells.part()[..made.cells.len()].copy_from_slice(&made.cells);
+            lent.flags.part()[..made.flags.len()].copy_from_slice(&made.flags);
+            made.printed
+        }
+    }
+}
+
+fn make(module: Option<&[u8]>, plan: Option<&[u8]>, room: &Room) -> Result<Made, Reply> {
     let Some(module) = module else { return Reply::refused(24, MODULE) };
     let Some(plan) = plan else { return Reply::refused(24, PLAN) };
     let (module, plan, numbering) = read_both(module, plan, room.module_cells, room.plan_cells)?;
@@ -45,7 +106,7 @@ fn report(module: Option<&[u8]>, plan: Option<&[u8]>, room: &Room) -> Result<Vec
 
     let mut printed = summary(&reply, &table, &flags);
     printed.extend(&text[..length]);
-    Ok(printed)
+    Ok(Made { module, plan, cells: table.cells, flags, printed })
 }
 
 /// The six lines that stand before the text.

@@ -172,7 +172,7 @@ pub fn read_both(module: &[u8], plan: &[u8], module_room: usize, plan_room: usiz
 }
 
 /// Lent cells beyond the table are 65,535.
-fn fill(cells: &mut [u16], table: Option<&Table>) {
+pub fn fill(cells: &mut [u16], table: Option<&Table>) {
     cells.fill(NO_STEP);
     if let Some(table) = table {
         cells[..table.cells.len()].copy_from_slice(&table.cells);
