@@ -3,13 +3,13 @@ use mathlib.Core.Path.{_≡_, refl, sym, subst, ap, _∙_}
 use mathlib.Core.Bool.{Bool, true, false}
 use mathlib.Core.List.{List}
 use native.Mathlib.Omega.{arith}
-use Prim.Native.Nat.{ℕ, _*_, _/_, _%_, _≤_}
+use Prim.Native.Nat.{ℕ, _*_, _≤_}
 use lib.ListN.{length}
 use Rattle.theory.specs.declared.Automaton.{Automaton}
 use Rattle.theory.specs.declared.Refusal.{Refusal}
 use Rattle.theory.specs.declared.Checked.{Checked}
 use Rattle.theory.specs.declared.Checked.the-variants.{Accepted, Refused}
-use Rattle.theory.specs.Table.{Table, table, cellsOf, composition, synthesis, controller, controllerHeader, keptCount, stepCount, endCount}
+use Rattle.theory.specs.Table.{Table, table, cellsOf, composition, synthesis, controller, keptCount, stepCount, endCount}
 use Rattle.theory.specs.Checks.{first, synthesisChecks}
 use Rattle.theory.proofs.Bounded.{length-tabulate}
 use Rattle.theory.proofs.Checks.{first-append, first-accepted, checks-premises}
@@ -22,8 +22,8 @@ use Rattle.synthesis.specs.declared.Synthesis.{Synthesis}
 use Rattle.synthesis.specs.declared.Synthesis.the-variants as made
 use Rattle.synthesis.specs.Replies.{decidedOf, synthesisReply, synthesisCells, synthesisFlags}
 use Rattle.printout.specs.Lines.{refusalText, figures}
-use Rattle.report.specs.Report.{reportChecks, madeText}
-use Rattle.report.specs.Parts.{sixOf, InOrder, isRefused, textChecks, withText, WithText, tableTold, toldText, toldRefused, Tells, Makes}
+use Rattle.report.specs.Report.{textChecks, reportChecks, madeText}
+use Rattle.report.specs.Parts.{sixOf, InOrder, isRefused, withText, WithText, tableTold, toldText, toldRefused, Tells, Makes}
 
 -- ---- texts in some order
 
@@ -157,7 +157,7 @@ module _ (m p : List ℕ) (a b : Table) (cells flags cells′ flags′ : List �
       table-yes = rw (reply-yes, cells-are)
 
       whole-yes : whole ≡ first (textChecks m p t)
-      unfolding reportChecks textChecks
+      unfolding reportChecks
       whole-yes = first-accepted (synthesisChecks a b (n * 32) n) _ yes ∙ rw compatible
 
       text-yes : (order : ℕ → List ℕ) → madeText m p a b n order ≡ withText m p t (figured true) order

@@ -1,10 +1,10 @@
 -- How long a report may be: 26 bytes for a refusal; 72 for the six lines, with at most 65,536 of text behind them.
 use mathlib.Core.Path.{_≡_, refl}
-use mathlib.Core.Bool.{Bool, true, false, _||_, cond}
+use mathlib.Core.Bool.{Bool, true, false, cond}
 use mathlib.Core.List.{List, _++_}
 use Prim.Native.Nat.{ℕ, _*_, _≤_}
 use native.Mathlib.Omega.{arith}
-use lib.Dec.{T, ltb, nltb→le, not-T}
+use lib.Dec.{ltb, nltb→le, not-T}
 use lib.ListN.{length, length-append}
 use Rattle.theory.specs.declared.Checked.{Checked}
 use Rattle.theory.specs.declared.Checked.the-variants.{Accepted, Refused}
@@ -18,7 +18,7 @@ use Rattle.text.proofs.Lengths.{text-length}
 use Rattle.labels.specs.Names.{sequencerWord, signalNames}
 use Rattle.printout.specs.Lines.{refusalText, figures}
 use Rattle.printout.proofs.Short.{refusal-short, figures-short, within}
-use Rattle.report.specs.Report.{lentPairs, reportChecks, madeText, jointText, reportWith, printedTable, Reported}
+use Rattle.report.specs.Report.{lentPairs, textChecks, reportChecks, madeText, jointText, reportWith, printedTable, Reported}
 
 text-fits : (t : Table) (name : List ℕ) (names : List (List ℕ)) → first (writerChecks t name names 65536) ≡ Accepted → textLength t name names ≤ 65536
 unfolding writerChecks
@@ -28,7 +28,7 @@ text-fits t name names e =
 
 module _ (order : ℕ → List ℕ) (m p : List ℕ) where
   made-short : (a b : Table) (n : ℕ) → Order (controller a b) order → length (madeText m p a b n order) ≤ 65608
-  unfolding madeText reportChecks
+  unfolding madeText reportChecks textChecks
   made-short a b n o = go (first (reportChecks m p a b n)) refl (synthesis a b .compatible) refl
     where
       six : Bool → List ℕ

@@ -19,7 +19,8 @@ use Rattle.writer.specs.declared.Printed.the-variants as reply
 use Rattle.writer.specs.Replies.{writerReply}
 use Rattle.labels.specs.Names.{sequencerWord, signalNames}
 use Rattle.printout.specs.Lines.{refusalText}
-use Rattle.report.specs.Parts.{textChecks, withText, WithText}
+use Rattle.report.specs.Report.{textChecks}
+use Rattle.report.specs.Parts.{withText, WithText}
 
 refused-of : (c : Checked) (n : ℕ) (r : Refusal) → unlessRefused c reply.Refused (reply.Length n) ≡ reply.Refused r → c ≡ Refused r
 refused-of Accepted n r e = absurd (let z : _≡_ {A = ℕ} 0 1 = cc in omega arith)

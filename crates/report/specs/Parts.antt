@@ -8,15 +8,15 @@ use Rattle.theory.specs.declared.Automaton.{Automaton}
 use Rattle.theory.specs.declared.Checked.{Checked}
 use Rattle.theory.specs.declared.Checked.the-variants.{Accepted}
 use Rattle.theory.specs.Table.{Table, table, synthesis, controller, keptCount}
-use Rattle.theory.specs.Checks.{Check, first, unlessRefused}
-use Rattle.text.specs.Writing.{textWith, Order, writerChecks}
+use Rattle.theory.specs.Checks.{first, unlessRefused}
+use Rattle.text.specs.Writing.{textWith, Order}
 use Rattle.emit.specs.Buffer.{stored, after}
 use Rattle.counts.specs.Cells.{stepsIn, endsIn}
 use Rattle.labels.specs.Names.{sequencerWord, signalNames}
 use Rattle.synthesis.specs.declared.Synthesis.{Synthesis}
 use Rattle.synthesis.specs.declared.Synthesis.the-variants as made
 use Rattle.printout.specs.Lines.{refusalText, figures}
-use Rattle.report.specs.Report.{lentPairs, roomOf, reportChecks, madeText}
+use Rattle.report.specs.Report.{lentPairs, roomOf, textChecks, reportChecks, madeText}
 
 -- The six lines over what stands in the maker's buffers.
 unfoldable pub sixOf : Bool → ℕ → ℕ → List ℕ → List ℕ → List ℕ
@@ -34,13 +34,9 @@ isRefused c = unlessRefused c (λ r. true) false
 
 -- ---- with yes: the six lines and the text of t, or why there is no text
 
-module _ (m p : List ℕ) (t : Table) where
-  unfoldable pub textChecks : List Check
-  textChecks = writerChecks t sequencerWord (signalNames m p) 65536
-
-  unfoldable pub withText : List ℕ → (ℕ → List ℕ) → List ℕ
-  withText six order =
-      unlessRefused (first textChecks) (λ r. refusalText (r .table) (r .number) 0) (six ++ textWith order t sequencerWord (signalNames m p))
+unfoldable pub withText : List ℕ → List ℕ → Table → List ℕ → (ℕ → List ℕ) → List ℕ
+withText m p t six order =
+    unlessRefused (first (textChecks m p t)) (λ r. refusalText (r .table) (r .number) 0) (six ++ textWith order t sequencerWord (signalNames m p))
 
 pub record WithText (m p : List ℕ) (t : Table) (six bytes : List ℕ) (refused : Bool) (end : ℕ) (bytes′ : List ℕ) : Type 0 where
   pub told : InOrder t (withText m p t six) bytes end bytes′
@@ -82,7 +78,7 @@ pub record Holds (h : Automaton) (cells : List ℕ) : Type 0 where
   pub few : h .states ≤ 4096
   pub room : h .states * 32 ≤ length cells
 
--- As many pairs as are lent fit the lent buffers, and room for 1,024.
+-- n pairs fit the lent buffers, and room for 1,024.
 pub record Fitting (cells flags n : ℕ) : Type 0 where
   pub cells-fit : n * 32 ≤ cells
   pub flags-fit : n ≤ flags

@@ -28,13 +28,14 @@ lentPairs a b room = lesserOf (a .header .states * b .header .states) room
 abbrev pub roomOf : ℕ → ℕ → ℕ
 roomOf cells flags = lesserOf (lesserOf (cells / 32) flags) 1024
 
+-- The writer's checks: the text of table `sequencer` is made in 65,536 bytes before anything is printed.
+unfoldable pub textChecks : List ℕ → List ℕ → Table → List Check
+textChecks m p t = writerChecks t sequencerWord (signalNames m p) 65536
+
 module _ (m p : List ℕ) (a b : Table) (n : ℕ) where
-  -- The checks after the reading, where the maker is given buffers of n pairs: the maker's and, with yes, the writer's, of the text of table
-  -- `sequencer` in 65,536 bytes.
+  -- The checks after the reading, where the maker is given buffers of n pairs: the maker's and, with yes, the writer's.
   unfoldable pub reportChecks : List Check
-  reportChecks =
-      synthesisChecks a b (n * 32) n
-      ++ cond (synthesis a b .compatible) (writerChecks (controller a b) sequencerWord (signalNames m p) 65536) []
+  reportChecks = synthesisChecks a b (n * 32) n ++ cond (synthesis a b .compatible) (textChecks m p (controller a b)) []
 
   -- The line of the first check that applies; else the six lines, which with yes the text follows.
   unfoldable pub madeText : (ℕ → List ℕ) → List ℕ
@@ -52,7 +53,7 @@ module _ (m p : List ℕ) (room : ℕ) where
   jointText order (both x y) = madeText m p (tableRead x) (tableRead y) (lentPairs (tableRead x) (tableRead y) room) order
   jointText order (neither r) = refusalText (r .text) (r .number) (r .line)
 
-  -- What the call leaves in a buffer: l where the answer is a refusal, of the reading or after it; else f of module and plan as read.
+  -- What is left in a buffer: l where the answer is a refusal, of the reading or after it; else f of module and plan as read.
   abbrev pub unlessRefusal : Joint → List ℕ → (Reading → Reading → List ℕ) → List ℕ
   unlessRefusal (both x y) l f =
       unlessRefused (first (reportChecks m p (tableRead x) (tableRead y) (lentPairs (tableRead x) (tableRead y) room))) (λ r. l) (f x y)
@@ -74,16 +75,16 @@ pub record Reported (m p : List ℕ) (cells cells′ pairs : ℕ) (bytes : List 
   pub text : bytes′ ≡ stored bytes 0 (reportWith order m p cells cells′ pairs)
   pub ends : end ≡ after (length bytes) 0 (reportWith order m p cells cells′ pairs)
 
--- ---- the call: the report of two texts, and what is left in the lent buffers, cm and cp the cells of module and plan. Where the answer is a
--- refusal, the two tables have no step, and the result's buffers are as they were; else these begin with the result.
+-- ---- the call: the report of two texts, and what is left in the lent buffers, cm and cp the cells of module and plan
 
+abbrev pub leftIn : (m p cm cp cells flags : List ℕ) → List ℕ → (Reading → Reading → List ℕ) → List ℕ
+leftIn m p cm cp cells flags l f = unlessRefusal m p (roomOf (length cells) (length flags)) (readBoth (length cm) m (length cp) p) l f
+
+-- Where the answer is a refusal, the two tables are left without steps, and the result's buffers as they were; else the tables are as read, and
+-- the result's buffers begin with it.
 pub record Told (m p cm cp cells flags bytes : List ℕ) (end : ℕ) (cm′ cp′ cells′ flags′ bytes′ : List ℕ) : Type 0 where
   pub told : Reported m p (length cm) (length cp) (roomOf (length cells) (length flags)) bytes end bytes′
-  pub module-left : cm′ ≡ unlessRefusal m p (roomOf (length cells) (length flags)) (readBoth (length cm) m (length cp) p)
-      (replicate (length cm) 65535) (λ x y. x .cells)
-  pub plan-left : cp′ ≡ unlessRefusal m p (roomOf (length cells) (length flags)) (readBoth (length cm) m (length cp) p)
-      (replicate (length cp) 65535) (λ x y. y .cells)
-  pub cells-left : cells′ ≡ unlessRefusal m p (roomOf (length cells) (length flags)) (readBoth (length cm) m (length cp) p)
-      cells (λ x y. stored cells 0 (synthesis (tableRead x) (tableRead y) .cells))
-  pub flags-left : flags′ ≡ unlessRefusal m p (roomOf (length cells) (length flags)) (readBoth (length cm) m (length cp) p)
-      flags (λ x y. stored flags 0 (synthesis (tableRead x) (tableRead y) .flags))
+  pub module-left : cm′ ≡ leftIn m p cm cp cells flags (replicate (length cm) 65535) (λ x y. x .cells)
+  pub plan-left : cp′ ≡ leftIn m p cm cp cells flags (replicate (length cp) 65535) (λ x y. y .cells)
+  pub cells-left : cells′ ≡ leftIn m p cm cp cells flags cells (λ x y. stored cells 0 (synthesis (tableRead x) (tableRead y) .cells))
+  pub flags-left : flags′ ≡ leftIn m p cm cp cells flags flags (λ x y. stored flags 0 (synthesis (tableRead x) (tableRead y) .flags))
