@@ -4,7 +4,8 @@
 //!
 //! Where document 01 is silent the reference follows docs/DECISIONS.md or the library, and says nothing on its own: the table that a refusal of a call
 //! on one table and of the writer names; a missing entry of the writer's names; what counts as a step in cells that no check has seen; how
-//! `count_ends` takes cells that are no whole rows; 10 where `report` is lent less than the program lends.
+//! `count_ends` takes cells that are no whole rows; 10 where `report` is lent less than the program lends; that a report which is refused after the
+//! reading leaves its tables as a refused reading does.
 //!
 //!     reference selftest CASES                               the reference alone, on folders of expected output
 //!     reference tables SEED COUNT [CASE]                     the calls on tables
