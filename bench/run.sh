@@ -1,13 +1,16 @@
 #!/usr/bin/env bash
-# Benchmarks: the archive against plain Rust and plain C, in one run. Arguments go to the program: bench/main.rs says which it takes.
+# Benchmarks: the archive against plain Rust and plain C, in one run. Arguments go to the program: bench/main.rs says which it takes. ARCHIVE names
+# another archive than that of this tree; SHIFT moves its code so many bytes on, a multiple of 16 (bench/compare.py says why).
 set -euo pipefail
 cd "$(dirname "$0")/.."
 
-archive=target/staticlib/libharness.a
+archive=${ARCHIVE:-target/staticlib/libharness.a}
 [ -f "$archive" ] || { echo "tests/archives.sh builds $archive"; exit 1; }
 
 out=$(mktemp -d)
 trap 'rm -rf "$out"' EXIT
+printf '.section .text.shift,"axR"\n.skip %d, 0x90\n.section .note.GNU-stack,""\n' "${SHIFT:-0}" >"$out/shift.s"
+gcc -c "$out/shift.s" -o "$out/shift.o"
 gcc -std=c99 -O2 -Wall -Wextra -Werror -c bench/plain.c -o "$out/plain.o"
-rustc --edition 2024 -O -D warnings bench/main.rs -o "$out/bench" -C link-arg="$archive" -C link-arg="$out/plain.o"
+rustc --edition 2024 -O -D warnings bench/main.rs -o "$out/bench" -C link-arg="$out/shift.o" -C link-arg="$archive" -C link-arg="$out/plain.o"
 "$out/bench" "$@"
