@@ -26,8 +26,8 @@ OTHERWISE = {
     ("harness", "harness_report"): "Told (now (m .entry))",
 }
 
-# A clause, and of the last one the brace of the body.
-CLAUSE = re.compile(r"ensures(?: \w+)? \{ λ \w+\. ⌜ (.*) ⌝ \}(?:\n\{)?", re.DOTALL)
+# A clause over the result, which is `r`; of the last one the brace of the body follows.
+CLAUSE = re.compile(r"ensures(?: \w+)? \{ λ (?:r|_)\. ⌜ (.*) ⌝ \}(?:\n\{)?", re.DOTALL)
 DECLARED = re.compile(r"( *)(?:unfoldable |abbrev )*(?:pub )?(data |record )?(\S+)(?: [({].*)? :")
 OPEN, SHUT = "([{⟦", ")]}⟧"
 # What makes an equation a part of a weaker statement: a premise, a choice, a quantifier.
@@ -56,26 +56,42 @@ def bare(words):
     return words
 
 
-def equations(head):
-    """What the contract gives without a premise, each left side with its right side: the clauses are taken apart at `×`, and a clause that has what
-    makes it weaker gives nothing."""
-    for clause in re.split(r"\n    (?=ensures|requires)\b", head)[1:]:
-        said = CLAUSE.fullmatch(clause.strip())
-        said = bare(said[1]) if said else ""
-        for part in [bare(part) for part in parts(said, "×")] if is_plain(said) else []:
-            sides = parts(part, "≡")
-            if is_plain(part) and len(sides) == 2:
-                yield sides[0], sides[1]
-
-
 def is_plain(words):
     """Whether nothing outside its brackets makes a statement weaker."""
     return all(len(parts(words, mark)) == 1 for mark in WEAKER)
 
 
-def is_free(right):
-    """Whether the right side of an equation speaks of what was there before the call alone."""
-    return not re.search(r"(?<![\w.])r(?!\w)|\.exit\b", right)
+def statements(head):
+    """What the clauses of a contract say, each without a premise, a choice or a quantifier."""
+    for clause in re.split(r"\n    (?=ensures|requires)\b", head)[1:]:
+        said = CLAUSE.fullmatch(clause.strip())
+        if said and is_plain(bare(said[1])):
+            yield bare(said[1])
+
+
+def equations(head):
+    """The equations of a contract, each left side with its right side: a statement is taken apart at `×`."""
+    for said in statements(head):
+        for part in map(bare, parts(said, "×")):
+            sides = parts(part, "≡")
+            if is_plain(part) and len(sides) == 2:
+                yield sides[0], sides[1]
+
+
+def parameters(signature):
+    """The parameters of a function, each name with its type."""
+    opened = signature.index("(")
+    depths = [signature[opened : k + 1].count("(") - signature[opened : k + 1].count(")") for k in range(opened, len(signature))]
+    listed = signature[opened + 1 : opened + depths.index(0)]
+    return [tuple(part.split(": ", 1)) for part in parts(listed, ",") if part]
+
+
+def is_free(right, references):
+    """Whether the right side of an equation speaks of what was there before the call alone: not of the result, and of a reference only as it was at
+    entry."""
+    for name in references:
+        right = re.sub(rf"\((?:{name}|«{name}») \.entry\)", "()", right)
+    return not re.search(rf"(?<![\w.])(?:r|{'|'.join(references) or 'r'})(?!\w)|\.exit\b", right)
 
 
 def lefts_of(name):
@@ -87,20 +103,24 @@ def lefts_of(name):
 def faults_of(head, otherwise=None, fields=lambda kind: None):
     """What is missing in a function's contract, or too much. `fields` gives the names of a declared record's fields."""
     signature = re.split(r"\n    (?:ensures|requires)\b", head)[0]
+    takes = parameters(signature)
     if re.search(r"\n    requires\b", head):
         yield "asks something of its caller"
-    if otherwise and otherwise in head:
+    if any(name == "r" for name, _ in takes):
+        yield "has a parameter that is called like the result"
+    if otherwise and any(said.startswith(otherwise) for said in statements(head)):
         return
-    given = list(equations(head))
+    references = [name for name, kind in takes if "&" in kind]
+    given = [(left, right) for left, right in equations(head) if is_free(right, references)]
     wanted = ["r"] if "->" in signature else []
     if re.search(r"-> &", signature):
         wanted = ["now r", "ptr r"]
     for left in wanted:
-        if not any(side == left and is_free(right) for side, right in given):
+        if not any(side == left for side, _ in given):
             yield f"does not say by an equation what {left} is"
-    for lent, kind in re.findall(r"(\w+): &(?:'\w+ )?mut (\[\w+\]|\w+)", signature):
-        whole = [re.fullmatch(lefts_of(lent), side) for side, right in given if is_free(right)]
-        field = [f" .{name}" for name in fields(kind) or []]
+    for lent, kind in [(name, kind) for name, kind in takes if re.search(r"\bmut\b", kind)]:
+        whole = [re.fullmatch(lefts_of(lent), side) for side, _ in given]
+        field = [f" .{name}" for name in fields(kind.split()[-1]) or []]
         if not any(said and (said[1] is None or field == [said[1]]) for said in whole):
             yield f"does not say by an equation what stands in {lent} at exit"
 
@@ -108,12 +128,13 @@ def faults_of(head, otherwise=None, fields=lambda kind: None):
 def fields_in(crate):
     """For a crate, what gives the names of the fields of a record that it declares."""
     text = "".join(open(path, encoding="utf-8").read() for path in glob.glob(f"crates/{crate}/src/*.rt"))
+    return lambda kind: fields_of(text, kind)
 
-    def fields(kind):
-        declared = re.search(rf"(?m)^pub struct {re.escape(kind)} \{{\n((?:.*\n)*?)\}}", text)
-        return re.findall(r"pub (\w+):", declared[1]) if declared else None
 
-    return fields
+def fields_of(text, kind):
+    """The names of the fields of a record that a source declares; None where it declares none of this name."""
+    declared = re.search(rf"(?m)^(?:pub )?struct {re.escape(kind)} \{{\n((?:.*\n)*?)\}}", text)
+    return re.findall(r"(?m)^    (?:pub )?(\w+):", declared[1]) if declared else None
 
 
 def declared_in(text):
@@ -130,18 +151,23 @@ def declared_in(text):
             record = indent
 
 
-def taken_from_kit(text):
-    """The names that a file takes from the kit's library, as it calls them."""
-    for names in re.findall(r"(?m)^(?:ghost )?use (?!Rattle·)[\w.·-]+\.\{([^}]*)\}", text):
-        yield from (name.split(" as ")[-1].strip() for name in names.split(","))
+def taken(text):
+    """What a file takes from elsewhere: whether from the kit's library, the name there, and the name here."""
+    for path, names in re.findall(r"(?m)^(?:ghost )?use ([\w.·-]+)\.\{([^}]*)\}", text):
+        for name in names.split(","):
+            there, _, here = name.strip().partition(" as ")
+            yield not path.startswith("Rattle·"), there, here or there
 
 
 def second_meanings(files):
-    """The symbols that are taken from the kit in one file and declared in specs/ of another; `files` has the text of each by its path."""
-    kit = {name for text in files.values() for name in taken_from_kit(text)}
+    """What gives a symbol that is taken from the kit another meaning: a definition in specs/, or another thing taken under its name; and an operator of
+    specs/, with which the words right of `≡` could be more than a side of the equation. `files` has the text of each by its path."""
+    kit = {there for text in files.values() for of_kit, there, _ in taken(text) if of_kit}
     for path, text in sorted(files.items()):
-        if "/specs/" in path:
-            yield from (f"{path}: gives {name} a meaning of its own" for name in declared_in(text) if name in kit)
+        names = list(declared_in(text)) if "/specs/" in path else []
+        names += [here for _, there, here in taken(text) if here != there]
+        yield from (f"{path}: gives {name} a meaning of its own" for name in names if name in kit)
+        yield from (f"{path}: declares the operator {name}" for name in names if name.startswith("_"))
 
 
 def main():

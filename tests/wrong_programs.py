@@ -4,11 +4,11 @@ A file has one wrong program, named as the file is, or several, each behind a li
 a function of its own. A function is proved from its own code and the contracts of those that it calls, so each of them is refused, or not, as if
 it stood alone, and one check of the crate tries them all.
 
-A wrong program may bring its proof along, where its code has another shape than the right one: lines of the proof of the function that it changes.
-Then all that can be proved of it is, and what fails is the fact that it breaks. One that changes a proof alone is none."""
+A wrong program may bring its proof along, where its code has another shape than the right one: lines of the proof of the one function whose body it
+changes. Then all that can be proved of it is, and what fails is the fact that it breaks; that the lines are as good as they can be is for the reader
+to judge. One that changes a proof alone, or nothing but blanks beside it, is none."""
 import glob
 import os
-import re
 from typing import NamedTuple, Optional
 
 import functions
@@ -30,34 +30,41 @@ class Trial(NamedTuple):
     programs: list
 
 
-def function_at(crate, file, words):
-    """The function whose body or proof holds the words; None where they stand in neither."""
-    proof = re.fullmatch(r"proofs/(.*)/Proof\.antt", file)
-    return proof[1].replace("/", "::") if proof else functions.containing(crate, file, words)
+def is_well_formed(changes):
+    """Whether a wrong program changes something, and of proofs only that of the one function whose body it changes."""
+    code = [(file, function) for file, function, old, new in changes if not file.startswith("proofs/") and old.split() != new.split()]
+    proofs = {file for file, *_ in changes if file.startswith("proofs/")}
+    own = {f"proofs/{function.replace('::', '/')}/Proof.antt" for _, function in code if function}
+    return bool(code) and (not proofs or (proofs == own and all(function for _, function in code)))
 
 
 def programs(path, crate, label):
     """The wrong programs of a file, in its order; none where a line is of no known kind, an `old:` has no `new:` after it, which rt would pass over, or
-    one of them changes a proof alone."""
-    name, file, changed, wrong, due = label, "", {}, set(), "old"
+    one of them is not well formed."""
+    name, file, old, changes = label, "", None, {}
     for line in filter(None, open(path, encoding="utf-8").read().split("\n")):
         kind, _, rest = line.partition(":")
         rest = rest.removeprefix(" ")
-        if kind not in ("wrong", "file", due) or (due == "new" and kind != "new"):
+        if kind not in (("new",) if old is not None else ("wrong", "file", "old")):
             return []
         if kind == "wrong":
             name = rest
         elif kind == "file":
             file = rest
         elif kind == "old":
-            changed.setdefault(name, set()).add(function_at(crate, file, rest))
-            wrong.update([name] if not file.startswith("proofs/") else [])
-            due = "new"
+            old = rest
         else:
-            due = "old"
-    if due != "old" or wrong != set(changed):
+            changes.setdefault(name, []).append((file, functions.containing(crate, file, old), old, rest))
+            old = None
+    if old is not None or not all(map(is_well_formed, changes.values())):
         return []
-    return [WrongProgram(name, places.pop() if len(places) == 1 else None) for name, places in changed.items()]
+    return [WrongProgram(name, changed_by(changed)) for name, changed in changes.items()]
+
+
+def changed_by(changes):
+    """The function whose body, and perhaps proof, a wrong program changes; None where it changes anything else."""
+    places = {function for file, function, *_ in changes if not file.startswith("proofs/")}
+    return places.pop() if len(places) == 1 else None
 
 
 def trials():

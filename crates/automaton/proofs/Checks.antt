@@ -19,8 +19,8 @@ use Rattle.theory.proofs.Tests.{or-right}
 use Rattle.theory.proofs.Bounded.{any-cong}
 use Rattle.theory.proofs.Checks.{orElse, first-append, passed-first}
 use Rattle.theory.proofs.Sets.{member-or}
-use Rattle.faults.specs.declared.Found.{Found}
-use Rattle.faults.specs.declared.Found.the-variants.{Fault, Nothing}
+use Rattle.faults.specs.declared.Finding.{Finding}
+use Rattle.faults.specs.declared.Finding.the-variants.{Fault, Nothing}
 use Rattle.faults.specs.Cells.{faultAt, firstFault}
 use Rattle.automaton.specs.Cells.{Sized, stepless}
 
@@ -38,7 +38,7 @@ module _ (m : ℕ) (l : List Check) (k : Checked) (first-part : k ≡ first (tak
 
 -- ---- what the walks find, as a refusal that names table i
 
-abbrev refusalOf : ℕ → Found → Checked
+abbrev refusalOf : ℕ → Finding → Checked
 refusalOf i (Fault c k) = refuse c i
 refusalOf i Nothing = Accepted
 
@@ -133,7 +133,7 @@ module _ (i : ℕ) (a : Automaton) where
             → any (n * 32) (λ k. ltb (getD cells k 65535) n && not (declared t (k % 32))) ≡ any (n * 32) (faultAt true n d cells)
         undeclared d lists = any-cong (n * 32) _ (faultAt true n d cells) (λ k l. rw (union 0 d (k % 32) lists))
 
-        module _ (d : ℕ) (f : Found) (lists : d ≡ bitOr (a .inputs) (a .outputs)) (walked : f ≡ firstFault n d cells) where
+        module _ (d : ℕ) (f : Finding) (lists : d ≡ bitOr (a .inputs) (a .outputs)) (walked : f ≡ firstFault n d cells) where
           found : first (tableChecks i t) ≡ refusalOf i f
           unfolding first tableChecks firstFault
           found =

@@ -10,7 +10,7 @@ ghost use Rattle.theory.specs.Table.{table, member, mirrorHeader};
 ghost use Rattle.theory.specs.Checks.{first, refuse as refused, tableChecks};
 ghost use Rattle.automaton.specs.Replies.{mirrorReply};
 ghost use Rattle.automaton.specs.Cells.{stepless};
-use faults::Found;
+use faults::Finding;
 use theory::Automaton;
 use theory::Checked;
 use theory::Refusal;
@@ -80,8 +80,8 @@ pub fn check(a: Automaton, cells: &[u16], number: u32) -> Checked
         return shape;
     };
     match faults::find(cells, a.states as u16, declared(a)) {
-        Found::Fault { check, cell: _ } => refuse(check, number),
-        Found::Nothing => Checked::Accepted,
+        Finding::Fault { check, cell: _ } => refuse(check, number),
+        Finding::Nothing => Checked::Accepted,
     }
 }
 

@@ -9,7 +9,7 @@ use lib.Dec.{eqb, ltb}
 use borrow.Author.Tests.{eq-eqb, ne-eqb, lt-ltb, le-ltb}
 use Rattle.theory.specs.Bounded.{any}
 use Rattle.faults.specs.declared.Walked.{Walked}
-use Rattle.faults.specs.declared.Found.the-variants.{Fault, Nothing}
+use Rattle.faults.specs.declared.Finding.the-variants.{Fault, Nothing}
 use Rattle.faults.specs.Cells.{faultAt, inRows, SoundBefore, Ended, firstFault}
 use Rattle.faults.proofs.Least.{least-any}
 

@@ -9,8 +9,8 @@ use Rattle.theory.specs.Bounded.{any}
 use Rattle.theory.specs.Table.{member}
 use Rattle.theory.specs.Checks.{stray}
 use Rattle.faults.specs.declared.Walked.{Walked}
-use Rattle.faults.specs.declared.Found.{Found}
-use Rattle.faults.specs.declared.Found.the-variants.{Fault, Nothing}
+use Rattle.faults.specs.declared.Finding.{Finding}
+use Rattle.faults.specs.declared.Finding.the-variants.{Fault, Nothing}
 
 -- The least number below n that passes the test; n if none does.
 unfoldable pub least : ℕ → (ℕ → Bool) → ℕ
@@ -31,7 +31,7 @@ abbrev pub inRows : List ℕ → ℕ
 inRows cells = length cells / 32 * 32
 
 -- What the two walks find: the first cell at fault by check 5; where there is none, the first by check 6.
-unfoldable pub firstFault : ℕ → ℕ → List ℕ → Found
+unfoldable pub firstFault : ℕ → ℕ → List ℕ → Finding
 firstFault n acts cells =
     cond (any (inRows cells) (faultAt false n acts cells)) (Fault 5 (least (inRows cells) (faultAt false n acts cells)))
     (cond (any (inRows cells) (faultAt true n acts cells)) (Fault 6 (least (inRows cells) (faultAt true n acts cells))) Nothing)

@@ -7,13 +7,13 @@ ghost use Rattle.theory.specs.Checks.{stray as strayOf};
 ghost use Rattle.faults.specs.Cells.{fault as faultOf, limit as limitOf, strayIn, SoundBefore, Ended, firstFault};
 
 // What the walks find: the check that applies, 5 or 6, and the index of the first cell at fault by it.
-pub enum Found {
+pub enum Finding {
     Fault { check: u32, cell: usize },
     Nothing,
 }
 
-// Where a walk ends: `at` is the index of the first cell at fault, or the number of cells; `row` is the first row that it did not pass over, or the number
-// of rows.
+// Where a walk ends: `at` is the index of the first cell at fault, or the number of cells. No cell before `row` is at fault by either check: it is the first
+// row that was not passed over, or the number of rows, and the next walk begins there.
 struct Walked {
     at: usize,
     row: usize,
@@ -115,7 +115,7 @@ fn walk(six: bool, cells: &[u16], states: u16, acts: u32, below: &[u16], start: 
 
 // Finds the first cell at fault in the whole rows of 32 cells, by check 5 if there is one, else by check 6, whose walk begins where check 5's met its first
 // unsound row: one pass is enough for a sound table. Cells beyond the last whole row do not matter.
-pub fn find(cells: &[u16], states: u16, acts: u32) -> Found
+pub fn find(cells: &[u16], states: u16, acts: u32) -> Finding
     ensures { λ r. ⌜ r ≡ firstFault states acts (now (cells .entry)) ⌝ }
 {
     let below = limits(states, acts);
@@ -124,12 +124,12 @@ pub fn find(cells: &[u16], states: u16, acts: u32) -> Found
     for check in 5..7u32 {
         let walked = walk(check == 6, cells, states, acts, &below, start);
         if walked.at < rows * 32 {
-            return Found::Fault {
+            return Finding::Fault {
                 check,
                 cell: walked.at,
             };
         }
         start = walked.row;
     }
-    Found::Nothing
+    Finding::Nothing
 }
