@@ -9,7 +9,7 @@ archive=${ARCHIVE:-target/staticlib/libharness.a}
 
 out=$(mktemp -d)
 trap 'rm -rf "$out"' EXIT
-printf '.section .text.shift,"axR"\n.skip %d, 0x90\n.section .note.GNU-stack,""\n' "${SHIFT:-0}" >"$out/shift.s"
+printf '.section .text.shift,"axR"\n.fill %d, 1, 0x90\n.section .note.GNU-stack,""\n' "${SHIFT:-0}" >"$out/shift.s"
 gcc -c "$out/shift.s" -o "$out/shift.o"
 gcc -std=c99 -O2 -Wall -Wextra -Werror -c bench/plain.c -o "$out/plain.o"
 rustc --edition 2024 -O -D warnings bench/main.rs -o "$out/bench" -C link-arg="$out/shift.o" -C link-arg="$archive" -C link-arg="$out/plain.o"
