@@ -15,9 +15,9 @@ from verdict import tell
 
 TOP = os.path.join(os.path.dirname(os.path.abspath(__file__)), "..")
 
-# The order of a state's steps is open in the writer, and what a file holds in files; a report is given by one definition for all of its buffers.
+# The order of a state's steps is open in the writer, and which bytes a file holds in files; a report is given by one definition for all of its buffers.
 OTHERWISE = {
-    ("files", "read"): "Within r (now (buf .exit))",
+    ("files", "read"): "Reads r (now (buf .entry)) (now (buf .exit))",
     ("writer", "write"): "Written (table a (now (cells .entry)))",
     ("labels", "write_text"): "Written (table header (now (cells .entry)))",
     ("report", "report"): "Told (now (m .entry))",

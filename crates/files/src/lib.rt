@@ -1,5 +1,8 @@
-// Reads a file whole into a lent buffer.
-ghost use Rattle.files.specs.Within.{Within};
+// Reads a file into a lent buffer.
+ghost use mathlib.Core.Path.{_≡_};
+ghost use Prim.Native.Nat.{_≤_, min};
+ghost use lib.ListN.{length};
+ghost use Rattle.files.specs.Reading.{taken, Reads};
 
 // What comes of it: how many bytes were read, or that the file cannot be read.
 pub enum File {
@@ -10,31 +13,68 @@ pub enum File {
 // How often a read that signals interrupt is made.
 const ATTEMPTS: usize = 1000;
 
-// Reads the file from its start until the buffer is full or the input ends. A missing file, a folder, or a read that fails is unreadable.
+// Reads the file from its start until the buffer is full, the input ends, or 65,537 bytes are read: one more than the longest text has, so
+// that a longer one is noticed. A missing file, a folder, or a read that fails is unreadable, and leaves the buffer as it was.
 pub fn read(path: &[u8], buf: &mut [u8]) -> File
-    ensures { λ r. ⌜ Within r (now (buf .exit)) ⌝ }
+    ensures { λ r. ⌜ Reads r (now (buf .entry)) (now (buf .exit)) ⌝ }
+{
+    let mut room = [0u8; 65537];
+    read_in(path, &mut room, buf)
+}
+
+// Reads into the room, and copies the bytes into the buffer once the whole reading has succeeded: a read can fail after others brought bytes.
+fn read_in(path: &[u8], room: &mut [u8], buf: &mut [u8]) -> File
+    requires { ⌜ length (now room) ≡ 65537 ⌝ }
+    ensures { λ r. ⌜ Reads r (now (buf .entry)) (now (buf .exit)) ⌝ }
+{
+    let wanted = lesser(room.len(), buf.len());
+    let file = fetch(path, &mut room[0..wanted]);
+    let n = taken(file);
+    emit::put(buf, 0, &room[0..n]);
+    file
+}
+
+fn lesser(a: usize, b: usize) -> usize
+    ensures { λ r. ⌜ r ≡ min a b ⌝ }
+{
+    if a < b { a } else { b }
+}
+
+// Counts the bytes to copy: none of a file that cannot be read.
+fn taken(file: File) -> usize
+    ensures { λ r. ⌜ r ≡ taken file ⌝ }
+{
+    match file {
+        File::Bytes(n) => n,
+        File::Unreadable => 0,
+    }
+}
+
+// Opens the file and fills the room from it.
+fn fetch(path: &[u8], room: &mut [u8]) -> File
+    ensures { λ r. ⌜ taken r ≤ length (now (room .exit)) ⌝ }
 {
     let fd = os::open_read(path);
     if fd < 0 {
         return File::Unreadable;
     }
-    let file = fill(fd, buf);
+    let filled = fill(fd, room);
     libc::close(fd);
-    file
+    filled
 }
 
-// Each round asks for all that is left of the buffer. Of a full buffer nothing is left, and that round is the last; so a folder is noticed
-// even where the buffer is empty.
-fn fill(fd: i32, buf: &mut [u8]) -> File
-    ensures { λ r. ⌜ Within r (now (buf .exit)) ⌝ }
+// Each round asks for all that is left of the room. Of full room nothing is left, and that round is the last; so a folder is noticed
+// even where there is no room.
+fn fill(fd: i32, room: &mut [u8]) -> File
+    ensures { λ r. ⌜ taken r ≤ length (now (room .exit)) ⌝ }
 {
     let mut done: usize = 0;
     loop {
-        let got = attempt(fd, &mut buf[done..]);
+        let got = attempt(fd, &mut room[done..]);
         if got < 0 {
             return File::Unreadable;
         }
-        let n = io::count(got, &buf[done..]);
+        let n = io::count(got, &room[done..]);
         if n == 0 {
             return File::Bytes(done);
         }

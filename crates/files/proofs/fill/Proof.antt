@@ -1,26 +1,15 @@
-use mathlib.Core.List.{List}
-use mathlib.Core.Path.{_≡_, sym}
-use Prim.Native.Nat.{ℕ, _-_, _≤_}
-use native.Mathlib.Omega.{arith}
+use mathlib.Core.Path.{_≡_}
+use Prim.Native.Nat.{_-_, _≤_}
 use lib.ListN.{length}
-use lib.Seq.{length-take-le}
-use Rattle.io.specs.Counts.{Counts}
 use borrow.Author.Needs.{needs}
 use Rattle.files.proofs.fill.Statement.{statement}
 use Rattle.files.proofs.fill.Tie as tie
-use Rattle.files.proofs.fill.Reads as reads
-use Rattle.files.proofs.fill.Lts as lts
-use Rattle.files.proofs.attempt.Reads as attempt-reads
-use Rattle.io.proofs.count.Reads as count-reads
-
-counts : (n : ℕ) (buf : List ℕ) → n ≤ length buf → Counts n buf
-counts n buf h = (h, sym (length-take-le n buf h))
 
 abbrev Inv-loop : tie.InvT-loop
-Inv-loop fd buf₀ done₀ buf done = (length buf ≡ length buf₀) × (done ≤ length buf)
+Inv-loop fd room₀ done₀ room done = (length room ≡ length room₀) × (done ≤ length room)
 
 abbrev μ-loop : tie.MeasureT-loop
-μ-loop fd buf₀ done₀ buf done = length buf - done
+μ-loop fd room₀ done₀ room done = length room - done
 
 loop-holds : tie.Need-loop-holds Inv-loop μ-loop
 loop-holds c = search needs
@@ -59,7 +48,7 @@ same-length-2 : tie.Need-same-length-2 Inv-loop μ-loop
 same-length-2 c = search needs
 
 returns-2 : tie.Need-returns-2 Inv-loop μ-loop
-returns-2 c = counts _ _ (omega arith)
+returns-2 c = search needs
 
 add-done : tie.Need-add-done Inv-loop μ-loop
 add-done c = search needs
