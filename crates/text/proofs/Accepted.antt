@@ -176,14 +176,14 @@ module _ (l : List Signal) (room : ℕ) where
   entered-sound text at st st′ (of-table n s f q t) w e = absurd (T-not (takesTable (st .place)) (w .begun) t)
   entered-sound text at st st′ (of-declaration r n q t g) w e = declaring-sound r _ (indexOf n (st .signals)) st st′ (index-le n (st .signals)) w e
   entered-sound text at st st′ (of-step f n u q t g) w e = stepping-sound (value f) (indexOf n (st .signals)) (value u) st st′ w e
-  entered-sound text at st st′ (of-refusal k) w e = absurd (let z : _≡_ {A = ℕ} 0 1 = cc in omega arith)
+  entered-sound text at st st′ (of-refusal k least) w e = absurd (let z : _≡_ {A = ℕ} 0 1 = cc in omega arith)
 
   pub first-sound : {fs : List (List ℕ)} {e : Entry} (text at : ℕ) (st : Reading) → From Head fs e → length l ≤ 32 → entered text at (fresh l room) e ≡ next st → Sound l room st
   unfolding entered
   first-sound text at st (of-table n s f q t) few e = started-sound (value s) (value f) st few e
   first-sound text at st (of-declaration r n q t g) few e = absurd t
   first-sound text at st (of-step f n u q t g) few e = absurd t
-  first-sound text at st (of-refusal k) few e = absurd (let z : _≡_ {A = ℕ} 0 1 = cc in omega arith)
+  first-sound text at st (of-refusal k least) few e = absurd (let z : _≡_ {A = ℕ} 0 1 = cc in omega arith)
 
 -- ---- all lines
 

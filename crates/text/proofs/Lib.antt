@@ -9,3 +9,4 @@ pub mod Entries
 pub mod Accepted
 pub mod Said
 pub mod Parts
+pub mod NeverTen

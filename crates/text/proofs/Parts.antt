@@ -79,7 +79,7 @@ module _ (l : List Signal) (text : ℕ) (bytes : List ℕ) where
       (known-stand (a .signals) _ (indexOf n (a .signals)) (declared-stands at x r n h q g) w)
   entered-stand at x p a b (of-step f n u q t g) h w e =
       subst (λ st. AllStand (st .signals)) (stepping-of a (value f) (indexOf n (a .signals)) (value u) b e .gives) w
-  entered-stand at x p a b (of-refusal k) h w e = absurd (let z : _≡_ {A = ℕ} 0 1 = cc in omega arith)
+  entered-stand at x p a b (of-refusal k least) h w e = absurd (let z : _≡_ {A = ℕ} 0 1 = cc in omega arith)
 
   -- The lines from the byte `at` on: the first begins there, the others behind it.
   next-line : (at : ℕ) (x y : List ℕ) (ls : List (List ℕ)) → split 10 (drop at bytes) ≡ x ∷ y ∷ ls → Line at x × (split 10 (drop (at + length x + 1) bytes) ≡ y ∷ ls)

@@ -144,7 +144,7 @@ module _ (l : List Signal) (room : ℕ) where
   entered-done text at a b (of-table n s f q t) w e = absurd (T-not (takesTable (a .place)) (w .begun) t)
   entered-done text at a b (of-declaration r n q t g) w e = declaring-done r _ a b w e
   entered-done text at a b (of-step f n u q t g) w e = stepping-done (value f) (value u) n a b w e
-  entered-done text at a b (of-refusal k) w e = absurd (let z : _≡_ {A = ℕ} 0 1 = cc in omega arith)
+  entered-done text at a b (of-refusal k least) w e = absurd (let z : _≡_ {A = ℕ} 0 1 = cc in omega arith)
 
   -- ---- all lines
 
@@ -165,7 +165,7 @@ module _ (l : List Signal) (room : ℕ) where
       subst (λ st. Holds st (table (value s) (value f))) (started-of (fresh l room) (value s) (value f) b e .gives) (refl, refl)
   first-holds text at b (of-declaration r n q t g) e = absurd t
   first-holds text at b (of-step f n u q t g) e = absurd t
-  first-holds text at b (of-refusal k) e = absurd (let z : _≡_ {A = ℕ} 0 1 = cc in omega arith)
+  first-holds text at b (of-refusal k least) e = absurd (let z : _≡_ {A = ℕ} 0 1 = cc in omega arith)
 
   pub all-hold : (text : ℕ) (bytes : List ℕ) (st : Reading) → length l ≤ 32 → readFrom l text room bytes ≡ finished st → AllHold st (split 10 bytes)
   all-hold text bytes st few e =
