@@ -29,7 +29,7 @@ use Rattle.text.proofs.Decimal.{Digits, digits-of}
 use Rattle.emit.specs.Buffer.{stored}
 use Rattle.emit.proofs.Buffer.{stored-front}
 use Rattle.printout.specs.Lines.{refusalText, figures}
-use Rattle.report.specs.Report.{lentPairs, roomOf, reportChecks, madeText, jointText, unlessRefusal, reportWith, Told}
+use Rattle.report.specs.Report.{lentPairs, roomOf, reportChecks, madeText, jointText, unlessReportRefused, reportWith, Told}
 use Rattle.report.proofs.Whole.{lent-fits}
 
 -- What is printed of a number below 100,000 is its decimal: digits, five at most, no needless zero before them, and their value is the number.
@@ -217,12 +217,12 @@ module _ (m p : List ℕ) (room : ℕ) (order : ℕ → List ℕ) where
   checkedOf x y = first (reportChecks m p (tableRead x) (tableRead y) (lentPairs (tableRead x) (tableRead y) room))
 
   line-leaves : (j : Joint) (file number line : ℕ) → jointText m p room order j ≡ refusalText file number line
-      → (l : List ℕ) (f : Reading → Reading → List ℕ) → unlessRefusal m p room j l f ≡ l
+      → (l : List ℕ) (f : Reading → Reading → List ℕ) → unlessReportRefused m p room j l f ≡ l
   unfolding madeText
   line-leaves (neither r) file number line e l f = refl
   line-leaves (both x y) file number line e l f = go (checkedOf x y) refl
     where
-      go : (k : Checked) → checkedOf x y ≡ k → unlessRefusal m p room (both x y) l f ≡ l
+      go : (k : Checked) → checkedOf x y ≡ k → unlessReportRefused m p room (both x y) l f ≡ l
       go Accepted q = absurd (six-no-line _ (synthesis (tableRead x) (tableRead y) .compatible) _ _ _ _ _ _ file number line (rw q at e))
       go (Refused r) q = rw q
 
@@ -233,8 +233,8 @@ module _ (m p : List ℕ) (room : ℕ) (order : ℕ → List ℕ) where
     accepted : checkedOf component specification ≡ Accepted
 
   passed-leaves : (j : Joint) (w : Passed j) (l : List ℕ) (f : Reading → Reading → List ℕ)
-      → unlessRefusal m p room j l f ≡ f (w .component) (w .specification)
-  passed-leaves j w l f = ap (λ (k : Joint). unlessRefusal m p room k l f) (w .read) ∙ rw (w .accepted)
+      → unlessReportRefused m p room j l f ≡ f (w .component) (w .specification)
+  passed-leaves j w l f = ap (λ (k : Joint). unlessReportRefused m p room k l f) (w .read) ∙ rw (w .accepted)
 
   no-line-passed : (j : Joint) → ((file number line : ℕ) → jointText m p room order j ≡ refusalText file number line → ⊥) → Passed j
   unfolding madeText

@@ -5,10 +5,9 @@ use mathlib.Core.List.{List, _++_}
 use Prim.Native.Nat.{ℕ, _+_, _*_, _/_, _≤_, _<_}
 use native.Mathlib.Nat.{mul-le-mul}
 use native.Mathlib.Decide.{decLe}
-use native.Mathlib.Numerals.{add-one}
 use native.Mathlib.Omega.{arith}
-use lib.ListN.{length, take, drop, getD, set, replicate, drop-of-length-le}
-use lib.Seq.{drop-cons, length-take-le, take-at}
+use lib.ListN.{length, take, replicate}
+use lib.Seq.{length-take-le, take-at}
 use borrow.Author.Tests.{le-leb, lt-leb}
 use Rattle.theory.specs.declared.Automaton.{Automaton}
 use Rattle.theory.specs.declared.Checked.{Checked}
@@ -59,17 +58,6 @@ lent-fits pairs cells flags n n-lent =
     let y = lesser-le (lesserOf (cells / 32) flags) 1024 in
     let z = lesser-le pairs (roomOf cells flags) in
     record { cells-fit = omega (arith, n-lent, x, y, z); flags-fit = omega (arith, n-lent, x, y, z); own = omega (arith, n-lent, y, z) }
-
--- ---- `copy`
-
-module _ (d₀ s d : List ℕ) (i : ℕ) where
-  pub copied-next : i < length s → stored d i (drop i s) ≡ stored d₀ 0 s → stored (set d i (getD s i 0)) (i + 1) (drop (i + 1) s) ≡ stored d₀ 0 s
-  unfolding stored
-  copied-next h e = rw (add-one i) (rw (drop-cons s i 0 h) at e)
-
-  pub copied-all : length s ≤ i → stored d i (drop i s) ≡ stored d₀ 0 s → d ≡ stored d₀ 0 s
-  unfolding stored
-  copied-all h e = rw (drop-of-length-le s h) at e
 
 -- ---- what is left in a buffer
 

@@ -29,6 +29,7 @@ pub record InOrder (t : Table) (f : (ℕ → List ℕ) → List ℕ) (bytes : Li
   pub text : bytes′ ≡ stored bytes 0 (f order)
   pub ends : end ≡ after (length bytes) 0 (f order)
 
+-- Whether a check applies, so that the answer is a refusal.
 abbrev pub isRefused : Checked → Bool
 isRefused c = unlessRefused c (λ r. true) false
 

@@ -53,11 +53,11 @@ module _ (m p : List ℕ) (room : ℕ) where
   jointText order (both x y) = madeText m p (tableRead x) (tableRead y) (lentPairs (tableRead x) (tableRead y) room) order
   jointText order (neither r) = refusalText (r .text) (r .number) (r .line)
 
-  -- What is left in a buffer: l where the answer is a refusal, of the reading or after it; else f of module and plan as read.
-  abbrev pub unlessRefusal : Joint → List ℕ → (Reading → Reading → List ℕ) → List ℕ
-  unlessRefusal (both x y) l f =
+  -- Gives l where the report is a refusal, of the reading or after it; else f of module and plan as read.
+  abbrev pub unlessReportRefused : Joint → List ℕ → (Reading → Reading → List ℕ) → List ℕ
+  unlessReportRefused (both x y) l f =
       unlessRefused (first (reportChecks m p (tableRead x) (tableRead y) (lentPairs (tableRead x) (tableRead y) room))) (λ r. l) (f x y)
-  unlessRefusal (neither r) l f = l
+  unlessReportRefused (neither r) l f = l
 
 -- All that is printed, with lent cells for so many states of each table and a result of so many pairs.
 unfoldable pub reportWith : (ℕ → List ℕ) → List ℕ → List ℕ → ℕ → ℕ → ℕ → List ℕ
@@ -77,8 +77,9 @@ pub record Reported (m p : List ℕ) (cells cells′ pairs : ℕ) (bytes : List 
 
 -- ---- the call: the report of two texts, and what is left in the lent buffers, cm and cp the cells of module and plan
 
+-- What the call leaves in one of the lent buffers: l after a refusal, else f of module and plan as read.
 abbrev pub leftIn : (m p cm cp cells flags : List ℕ) → List ℕ → (Reading → Reading → List ℕ) → List ℕ
-leftIn m p cm cp cells flags l f = unlessRefusal m p (roomOf (length cells) (length flags)) (readBoth (length cm) m (length cp) p) l f
+leftIn m p cm cp cells flags l f = unlessReportRefused m p (roomOf (length cells) (length flags)) (readBoth (length cm) m (length cp) p) l f
 
 -- Where the answer is a refusal, the two tables are left without steps, and the result's buffers as they were; else the tables are as read, and
 -- the result's buffers begin with it.

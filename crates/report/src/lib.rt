@@ -194,7 +194,7 @@ fn own_cells() -> [u16; 32768]
     [65535u16; 32768]
 }
 
-// A flag for each of these pairs.
+// Room for the flags of 1,024 pairs, a byte for each.
 fn own_flags() -> [u8; 1024]
     ensures { λ r. ⌜ length r ≡ 1024 ⌝ }
 {

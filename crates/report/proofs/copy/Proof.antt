@@ -1,14 +1,16 @@
 use mathlib.Core.Path.{_≡_}
-use Prim.Native.Nat.{_-_, _≤_}
-use lib.ListN.{length, drop}
+use Prim.Native.Nat.{_+_, _-_, _≤_}
+use native.Mathlib.Nat.{zero-add}
+use native.Mathlib.Omega.{arith}
+use lib.ListN.{length, drop, length-set}
 use Rattle.emit.specs.Buffer.{stored}
-use Rattle.report.proofs.Whole.{copied-next, copied-all}
+use Rattle.emit.proofs.Buffer.{copied-next, copied-all}
 use borrow.Author.Needs.{needs}
 use Rattle.report.proofs.copy.Statement.{statement}
 use Rattle.report.proofs.copy.Tie as tie
 
 abbrev Inv-loop : tie.InvT-loop
-Inv-loop cells₀ made i₀ i-end cells i = (i ≤ length made) × (i-end ≡ length made) × (length cells ≡ length cells₀) × (stored cells i (drop i made) ≡ stored cells₀ 0 made)
+Inv-loop cells₀ made i₀ i-end cells i = (i ≤ length made) × (i-end ≡ length made) × (length cells ≡ length cells₀) × (stored cells (0 + i) (drop i made) ≡ stored cells₀ 0 made)
 
 abbrev μ-loop : tie.MeasureT-loop
 μ-loop cells₀ made i₀ i-end cells i = length made - i
@@ -35,7 +37,9 @@ loop-less : tie.Need-loop-less Inv-loop μ-loop
 loop-less c = search needs
 
 loop-again : tie.Need-loop-again Inv-loop μ-loop
-loop-again c = search (copied-next, needs)
+loop-again c =
+    let l = c .before .before .loop in
+    (omega arith, l .inv .1, simp length-set (l .inv .2), rw (zero-add (l .i)) at (copied-next _ _ _ 0 (l .i) (omega arith) (l .inv .3)))
 
 same-length : tie.Need-same-length Inv-loop μ-loop
 same-length c = search needs
