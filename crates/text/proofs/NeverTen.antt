@@ -1,5 +1,5 @@
--- A reading into 131,072 lent cells or more is never refused by 10: the largest table has 4,096 states, of 32 cells each. So no lookup is (01,
--- "Table text"), which reads into so many of its own.
+-- A reading into 131,072 lent cells or more is never refused by 10: the largest table has 4,096 states, of 32 cells each. A lookup reads into so
+-- many of its own, and so its number is never 10 (01, "Table text").
 use mathlib.Core.Path.{_≡_, refl, ap, _∙_}
 use mathlib.Core.Bool.{Bool, true, false, not, _||_, cond}
 use mathlib.Core.List.{List, [], _∷_}

@@ -7,7 +7,7 @@ use Rattle.theory.specs.Table.{table}
 use Rattle.theory.specs.Checks.{declared}
 use Rattle.text.specs.Reading.{Signal, Reading, Outcome, finished, ended, readAlone, Joint, both, neither, readBoth}
 
--- Cells enough for any table: a lookup reads into so many of its own, and 10 never applies to it.
+-- Cells enough for any table: a lookup reads into so many of its own, and 10 never applies to it (proofs/NeverTen.antt).
 abbrev pub ample : ℕ
 ample = 131072
 
