@@ -1,6 +1,6 @@
-# make test is the whole gate; make run prints document 01's run; make soak compares with the independent implementation for longer; make bench
-# measures beside plain Rust and plain C.
-.PHONY: test run soak bench
+# make test is the whole gate; make run prints document 01's run; make archives builds what C links; make soak compares with the independent
+# implementation for longer; make bench measures beside plain Rust and plain C.
+.PHONY: test run archives soak bench
 
 test:
 	@bash tests/gate.sh
@@ -9,6 +9,9 @@ test:
 run:
 	@log=$$(rt check sequencer 2>&1) || { echo "$$log"; exit 1; }
 	@cd examples/ref && ../../target/bin/sequencer
+
+archives:
+	@bash tests/archives.sh
 
 soak: built
 	@bash tests/reference.sh soak

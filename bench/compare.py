@@ -3,7 +3,7 @@
 
 Five runs of each in turn, on a quiet machine. What counts is the ratio of the archive to the faster baseline of the same run, in the median of the
 five; a row is slower, or faster, if the medians differ by more than a tenth and by more than the spread of BEFORE's five. Each of the five runs puts
-the archive's code at another place: a change of one function moves the others, and code that stands 16 bytes further can take 1.4 times as long."""
+the archive's code at another place: a loop that stands 16 bytes further can take 1.4 times as long, and a change moves what stands behind it."""
 import os
 import re
 import statistics
