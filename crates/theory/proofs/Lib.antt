@@ -16,3 +16,7 @@ pub mod Table
 pub mod Checks
 pub mod Verdicts
 pub mod Controller
+pub mod Commutative
+pub mod Substitution
+pub mod SubstitutionByCalls
+pub mod PremisesNeeded

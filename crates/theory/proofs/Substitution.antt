@@ -1,0 +1,143 @@
+-- A better part in the same place (02: S-13): of any interface automata, and of all accepted tables at any number of pairs.
+use mathlib.Core.Path.{_≡_, refl, sym, subst}
+use mathlib.Core.Logic.{_⊎_, inl, inr}
+use mathlib.Core.Bool.{not, _&&_, _||_}
+use Prim.Native.Nat.{ℕ}
+use lib.Dec.{T, T-not}
+use Rattle.theory.specs.Interface.{InterfaceAutomaton, action, compose, Moves, steps, stays, Joint, Illegal, of-first, of-second, Incompatible, here, there, CompatiblePair, Compatible, RefinesBy, Deterministic}
+use Rattle.theory.specs.Numbered.{WellFormed}
+use Rattle.theory.specs.Table.{Table, automaton}
+use Rattle.theory.specs.Valid.{Valid}
+use Rattle.theory.specs.Substitution.{SameLists, interfaceOf, SubstitutionLaws}
+use Rattle.theory.proofs.Tests.{or-cases, or-left, or-right, and-right}
+use Rattle.theory.proofs.Steps.{Stable, step-of, compatible-on, second-accepts, first-accepts, compose-deterministic}
+use Rattle.theory.proofs.Simulation.{match-input, match-output, matching, reflexive, transitive}
+use Rattle.theory.proofs.Numbering.{numbered-deterministic, numbered-stable}
+use Rattle.theory.proofs.Decided.{by-test, decided, compositions-decided}
+use Rattle.theory.proofs.Table.{table-narrow, table-well-formed}
+use Rattle.theory.proofs.Commutative.{commutes}
+
+-- ---- interface automata: X refines Y by ρ, and has the same lists
+
+module _ (X Y Z : InterfaceAutomaton) (cY : Stable Y) (cZ : Stable Z) (same : SameLists X Y) (ρ : X .State → Y .State → Type 0) (ref : RefinesBy X Y ρ) where
+  same-action : (a : ℕ) → action X a ≡ action Y a
+  same-action a i = same .inputs a i || same .outputs a i
+
+  same-outputs : (a : ℕ) → (X .output a || Z .output a) ≡ (Y .output a || Z .output a)
+  same-outputs a i = same .outputs a i || Z .output a
+
+  -- An output step of X beside Z is matched by Y, where the pair of Y is compatible: what Z sends and X takes, Y takes too.
+  match-sent : {x x′ : X .State} {y : Y .State} {z z′ : Z .State} (a : ℕ) → ρ x y → CompatiblePair Y Z (y, z) → T (X .output a || Z .output a)
+      → Joint X Z (x, z) a (x′, z′) → (y′ : Y .State) × Joint Y Z (y, z) a (y′, z′) × ρ x′ y′
+  match-sent {x} {x′} {y} {z} {z′} a h k t j = go (j .first)
+    where
+      joint : {y′ : Y .State} → Moves Y a y y′ → Joint Y Z (y, z) a (y′, z′)
+      joint n = record { known = subst (λ b. T (b || action Z a)) (same-action a) (j .known); first = n; second = j .second }
+
+      sent : T (action X a) → T (X .output a) ⊎ (T (Y .input a) × T (Z .output a))
+      sent s = elim (or-cases (X .output a) (Z .output a) t) [
+        | inl o ↦ inl o
+        | inr o ↦ elim (or-cases (X .input a) (X .output a) s) [ inl i ↦ inr (subst T (same .inputs a) i, o) | inr u ↦ inl u ]
+      ]
+
+      go : Moves X a x x′ → (y′ : Y .State) × Joint Y Z (y, z) a (y′, z′) × ρ x′ y′
+      go (stays n e) = (y, joint (stays (subst (λ b. T (not b)) (same-action a) n) refl), subst (λ u. ρ u y) e h)
+      go (steps s m) = elim (sent s) [
+        | inl o ↦ let (y′, n, h′) = match-output (ref .simulation) a h o m in (y′, joint (steps (subst T (same-action a) s) n), h′)
+        | inr (i, o) ↦
+            let (y′, n) = first-accepts Y Z a cY k o i (z′, step-of (or-right (Z .input a) (Z .output a) o) (j .second)) in (
+              y′,
+              joint (steps (subst T (same-action a) s) n),
+              ref .simulation .successors x x′ y y′ h a (or-left (Y .input a) (X .output a) i) m n,
+            )
+      ]
+
+  -- Beside a state z where the pair of Y is compatible, a related state of X is compatible.
+  legal : {x : X .State} {y : Y .State} {z : Z .State} → ρ x y → CompatiblePair Y Z (y, z) → ¬ Illegal X Z (x, z)
+  legal {x} {y} {z} h k (of-first f) =
+      f .cannot (second-accepts Y Z (f .sent) cZ k (subst T (same .outputs (f .sent)) (f .sends)) (f .takes)
+      (ref .simulation .outputs x y h (f .sent) (f .sends) (f .can)))
+  legal {x} {y} {z} h k (of-second f) =
+      let i : T (Y .input (f .sent)) = subst T (same .inputs (f .sent)) (f .takes) in
+      f .cannot (ref .simulation .inputs x y h (f .sent) i (first-accepts Y Z (f .sent) cY k (f .sends) i (f .can)))
+
+  kept : (s : X .State × Z .State) → Incompatible X Z s → (y : Y .State) → ρ (s .0) y → ¬ CompatiblePair Y Z (y, s .1)
+  kept s (here i) y h k = legal h k i
+  kept s (there {t = t} a e d) y h k =
+      let (y′, j, h′) = match-sent a h k (e .sends) (e .joint) in
+      kept t d y′ h′ (compatible-on Y Z a k (subst T (same-outputs a) (e .sends)) j)
+
+  pub replaces-compatible : Compatible Y Z → Compatible X Z
+  replaces-compatible fit d = kept (X .initial, Z .initial) d (Y .initial) (ref .initials) fit
+
+  -- An input step of Y beside Z is matched by X.
+  match-taken : {x : X .State} {y y′ : Y .State} {z z′ : Z .State} (a : ℕ) → ρ x y → T (not (Y .output a || Z .output a))
+      → Joint Y Z (y, z) a (y′, z′) → (x′ : X .State) × Joint X Z (x, z) a (x′, z′) × ρ x′ y′
+  match-taken {x} {y} {y′} {z} {z′} a h n j = go (j .first)
+    where
+      joint : {x′ : X .State} → Moves X a x x′ → Joint X Z (x, z) a (x′, z′)
+      joint l = record { known = subst (λ b. T (b || action Z a)) (sym (same-action a)) (j .known); first = l; second = j .second }
+
+      taken : T (action Y a) → T (Y .input a)
+      taken s = elim (or-cases (Y .input a) (Y .output a) s)
+          [ inl i ↦ i | inr o ↦ absurd (T-not (Y .output a || Z .output a) n (or-left (Y .output a) (Z .output a) o)) ]
+
+      go : Moves Y a y y′ → (x′ : X .State) × Joint X Z (x, z) a (x′, z′) × ρ x′ y′
+      go (stays u e) = (x, joint (stays (subst (λ b. T (not b)) (sym (same-action a)) u) refl), subst (λ u. ρ x u) e h)
+      go (steps s m) = let (x′, l, h′) = match-input (ref .simulation) a h (taken s) m in (x′, joint (steps (subst T (sym (same-action a)) s) l), h′)
+
+  -- Related states of X and Y beside the same state of Z, where the pair of Y is compatible.
+  abbrev pub Beside : X .State × Z .State → Y .State × Z .State → Type 0
+  Beside s t = (s .1 ≡ t .1) × ρ (s .0) (t .0) × CompatiblePair Y Z (t .0, s .1)
+
+  pub replaces-refines : Deterministic X → Deterministic Y → Deterministic Z → Compatible Y Z → RefinesBy (compose X Z) (compose Y Z) Beside
+  replaces-refines dX dY dZ fit = record {
+    lists = record {
+      inputs = λ a t. subst T (sym (λ i. (same .inputs a i || Z .input a) && not (same .outputs a i || Z .output a))) t;
+      outputs = λ a t. subst T (same-outputs a) t;
+    };
+    simulation = matching (compose-deterministic X Z dX dZ) (compose-deterministic Y Z dY dZ) (record {
+      inputs = λ s t t′ h a i m.
+          let j : Joint Y Z (t .0, s .1) a t′ = subst (λ u. Joint Y Z (t .0, u) a t′) (sym (h .0)) (m .joint) in
+          let (x′, j′, h′) = match-taken a (h .1) (and-right (Y .input a || Z .input a) (not (Y .output a || Z .output a)) i) j in (
+            (x′, t′ .1),
+            record { joint = j′; source = λ d. kept s d (t .0) (h .1) (h .2); target = λ d. kept (x′, t′ .1) d (t′ .0) h′ (m .target) },
+            (refl, h′, m .target),
+          );
+      outputs = λ s s′ t h a o m.
+          let (y′, j′, h′) = match-sent a (h .1) (h .2) o (m .joint) in
+          let k′ : CompatiblePair Y Z (y′, s′ .1) = compatible-on Y Z a (h .2) (subst T (same-outputs a) o) j′ in (
+            (y′, s′ .1),
+            record { joint = subst (λ u. Joint Y Z (t .0, u) a (y′, s′ .1)) (h .0) j′; source = subst (λ u. CompatiblePair Y Z (t .0, u)) (h .0) (h .2); target = k′ },
+            (refl, h′, k′),
+          );
+    });
+    initials = (refl, ref .initials, fit);
+  }
+
+-- ---- accepted tables
+
+well-formed : (t : Table) → Valid t → WellFormed (automaton t)
+well-formed t v = table-well-formed t (v .initial)
+
+pub substitution-laws : (x y z : Table) → Valid x → Valid y → Valid z → SubstitutionLaws x y z
+substitution-laws x y z vx vy vz = record {
+  reflexive = decided (automaton x) (automaton x) 32 (well-formed x vx) (well-formed x vx) (table-narrow x) (table-narrow x)
+      (reflexive (interfaceOf x) (numbered-deterministic (automaton x)));
+  transitive = λ f g.
+      decided (automaton x) (automaton z) 32 (well-formed x vx) (well-formed z vz) (table-narrow x) (table-narrow z) (transitive (by-test f) (by-test g));
+  substitution = λ f same fit.
+      let (ρ, ref) = by-test f in
+      let cY = numbered-stable (automaton y) in
+      let cZ = numbered-stable (automaton z) in
+      record {
+        compatible = replaces-compatible (interfaceOf x) (interfaceOf y) (interfaceOf z) cY cZ same ρ ref fit;
+        refines = compositions-decided (automaton x) (automaton z) (automaton y) (automaton z) 32
+            (well-formed x vx) (well-formed z vz) (well-formed y vy) (well-formed z vz) (table-narrow x) (table-narrow z) (table-narrow y) (table-narrow z) (
+              _,
+              replaces-refines (interfaceOf x) (interfaceOf y) (interfaceOf z) cY cZ same ρ ref
+                  (numbered-deterministic (automaton x)) (numbered-deterministic (automaton y)) (numbered-deterministic (automaton z)) fit,
+            );
+      };
+  commutative = commutes (interfaceOf y) (interfaceOf z);
+}
