@@ -11,6 +11,7 @@
 //!     reference tables SEED COUNT [CASE]                     the calls on tables
 //!     reference texts SEED COUNT [CASE]                      reading, lookup, writing, report
 //!     reference demand3 SEED COUNT [CASE]                    all small sequencers
+//!     reference substitution SEED COUNT [CASE]               a part in the place of the one that it refines: the archive alone
 //!     reference program SEED COUNT FOLDER SEQUENCER [CASE]   the program, run in a scratch folder
 //!
 //! With CASE that one case is run alone. The last line is 'N passed, M failed', and the exit status says the same.
@@ -32,6 +33,7 @@ mod refine;
 mod reply;
 mod run_program;
 mod selftest;
+mod substitution;
 mod synth;
 mod table;
 mod tally;
@@ -48,7 +50,7 @@ fn main() -> ExitCode {
         Some(true) => ExitCode::SUCCESS,
         Some(false) => ExitCode::FAILURE,
         None => {
-            eprintln!("usage: reference selftest CASES | tables|texts|demand3 SEED COUNT [CASE] | program SEED COUNT FOLDER SEQUENCER [CASE]");
+            eprintln!("usage: reference selftest CASES | tables|texts|demand3|substitution SEED COUNT [CASE] | program SEED COUNT FOLDER SEQUENCER [CASE]");
             ExitCode::from(2)
         }
     }
@@ -66,6 +68,7 @@ fn run(arguments: &[&str]) -> Option<bool> {
         ("tables", case) => Some(compare_tables::run(seed, count, one(case)?)),
         ("texts", case) => Some(compare_texts::run(seed, count, one(case)?)),
         ("demand3", case) => Some(demand3::run(seed, count, one(case)?)),
+        ("substitution", case) => Some(substitution::run(seed, count, one(case)?)),
         ("program", [folder, sequencer, case @ ..]) => Some(run_program::run(seed, count, one(case)?, Path::new(folder), Path::new(sequencer))),
         _ => None,
     }

@@ -52,14 +52,19 @@ pub fn meeting_tables(r: &mut Random, sizes: Sizes) -> (Table, Table) {
 
 /// A module and a plan; in half of the cases the plan goes along with the module.
 pub fn module_and_plan(r: &mut Random, sizes: Sizes) -> (Table, Table) {
-    let (mut module, mut plan) = blank_pair(r, sizes, MODULE_AND_PLAN, UNKNOWN_TO_PLAN);
-    add_steps(r, &mut module);
+    often_going_along(r, sizes, MODULE_AND_PLAN, UNKNOWN_TO_PLAN)
+}
+
+/// Two tables with these roles; in half of the cases the second goes along with the first.
+fn often_going_along(r: &mut Random, sizes: Sizes, roles: &Roles, odd_roles: &Roles) -> (Table, Table) {
+    let (mut a, mut b) = blank_pair(r, sizes, roles, odd_roles);
+    add_steps(r, &mut a);
     if r.percent(50) {
-        go_along(r, &module, &mut plan);
+        go_along(r, &a, &mut b);
     } else {
-        add_steps(r, &mut plan);
+        add_steps(r, &mut b);
     }
-    (module, plan)
+    (a, b)
 }
 
 /// Two tables of which the first often refines the second.
@@ -69,14 +74,44 @@ pub fn refining_tables(r: &mut Random, (first, second): Sizes) -> (Table, Table)
     }
     let (_, mut y) = blank_pair(r, (first, second), MEETING, &[OUTPUT_OF_BOTH]);
     add_steps(r, &mut y);
-    let mut x = near(r, &y, first);
-    if r.percent(40) {
-        loosen_lists(r, &mut x);
-    }
+    let mut x = near_with_lists(r, &y, first, 40);
     if r.percent(4) {
         break_lists(r, &mut x, &mut y);
     }
     (x, y)
+}
+
+/// Three tables X, Y and Z: X often refines Y and mostly has its lists, and Y meets Z. At times X takes a signal of Z that Y does not know.
+pub fn part_and_surroundings(r: &mut Random) -> (Table, Table, Table) {
+    let (first, second, third) = sizes_of_three(r);
+    let (y, z) = often_going_along(r, (second, third), MEETING, &[OUTPUT_OF_BOTH]);
+    let mut x = near_with_lists(r, &y, first, 15);
+    if let Some(signal) = members(z.signals() & !x.signals()).find(|_| r.percent(10)) {
+        declare(&mut x, signal, Input);
+        take_more(r, &mut x);
+    }
+    (x, y, z)
+}
+
+/// States of X, Y and Z: mostly so few that X composed with Z can be compared with Y composed with Z; at times just too many for that, or for one
+/// of the compositions.
+fn sizes_of_three(r: &mut Random) -> (usize, usize, usize) {
+    const LARGE: &[(usize, usize, usize)] = &[(8, 8, 8), (9, 8, 8), (16, 8, 8), (40, 20, 3), (64, 3, 64)];
+    const TOO_LARGE: &[(usize, usize, usize)] = &[(64, 2, 65), (2_049, 2, 2), (1_366, 1, 3), (4, 65, 64), (2, 1_025, 4)];
+    match r.below(1_000) {
+        0..=9 => r.pick(LARGE),
+        10..=19 => r.pick(TOO_LARGE),
+        _ => (r.between(1, 5), r.between(1, 4), r.between(1, 4)),
+    }
+}
+
+/// A table near the given one, with other lists in so many of a hundred cases.
+pub fn near_with_lists(r: &mut Random, table: &Table, states: usize, other_lists: usize) -> Table {
+    let mut near = near(r, table, states);
+    if r.percent(other_lists) {
+        loosen_lists(r, &mut near);
+    }
+    near
 }
 
 /// A table with the same lists that often refines the given one: unrolled from it, it takes more and sends less. Half of them are edited besides.

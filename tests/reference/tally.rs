@@ -34,8 +34,13 @@ impl Tally {
 
     /// An outcome that can occur has to: a comparison that never meets it would say nothing about it.
     pub fn must_have_seen(&mut self, outcome: &str) {
-        let seen = self.seen.contains_key(outcome);
-        self.check(seen, || format!("the outcome '{outcome}' never occurred"));
+        self.must_have_seen_at_least(outcome, 1);
+    }
+
+    /// An outcome that a comparison is about has to be frequent.
+    pub fn must_have_seen_at_least(&mut self, outcome: &str, times: u64) {
+        let seen = self.seen.get(outcome).copied().unwrap_or_default();
+        self.check(seen >= times, || format!("the outcome '{outcome}' occurred {seen} times, expected at least {times}"));
     }
 
     /// Prints the outcomes and the last line; whether all passed.
