@@ -52,10 +52,10 @@ module _ (x y z : Table) where
 
   -- Of tables that pass checks 1 to 6; nothing is asked of check 7.
   pub record SubstitutionLaws : Type 0 where
+    -- 001, Theorem 3: refinement is reflexive and passes along a chain.
     pub reflexive : Refinement X X
-    -- Refinement passes along a chain.
     pub transitive : Refinement X Y → Refinement Y Z → Refinement X Z
-    -- If X refines Y, both have the same lists, and Y fits Z, then X takes the place of Y beside Z.
+    -- If X refines Y, both have the same lists, and Y fits Z, then X takes the place of Y beside Z (001, Theorem 4, with 02's condition on the lists).
     pub substitution : Refinement X Y → SameLists X Y → Compatible Y Z → Replaces X Y Z
     pub commutative : Commutes Y Z
 
