@@ -20,7 +20,7 @@ use Rattle.theory.proofs.Numbering.{split-pair, split-first, split-seco
 or-swap : (a b : Bool) → T (a || b) → T (b || a)
 or-swap a b t = subst T (or-comm a b) t
 
-module _ (X Y : InterfaceAutomaton) where
+module _ {X Y : InterfaceAutomaton} where
   joint-swap : {s t : X .State × Y .State} (a : ℕ) → Joint X Y s a t → Joint Y X (swap s) a (swap t)
   joint-swap a j = record { known = or-swap (action X a) (action Y a) (j .known); first = j .second; second = j .first }
 
@@ -33,11 +33,11 @@ module _ (X Y : InterfaceAutomaton) where
   incompatible-swap s (there {t = t} a e d) =
       there {t = swap t} a (record { sends = or-swap (X .output a) (Y .output a) (e .sends); joint = joint-swap a (e .joint) }) (incompatible-swap t d)
 
-between-swap : (X Y : InterfaceAutomaton) {s t : X .State × Y .State} (a : ℕ) → Between X Y s a t → Between Y X (swap s) a (swap t)
-between-swap X Y {s} {t} a b = record {
-  joint = joint-swap X Y a (b .joint);
-  source = λ d. b .source (incompatible-swap Y X (swap s) d);
-  target = λ d. b .target (incompatible-swap Y X (swap t) d);
+between-swap : {X Y : InterfaceAutomaton} {s t : X .State × Y .State} (a : ℕ) → Between X Y s a t → Between Y X (swap s) a (swap t)
+between-swap {s = s} {t = t} a b = record {
+  joint = joint-swap a (b .joint);
+  source = λ d. b .source (incompatible-swap (swap s) d);
+  target = λ d. b .target (incompatible-swap (swap t) d);
 }
 
 pub commutes : (Y Z : InterfaceAutomaton) → Commutes Y Z
@@ -47,8 +47,8 @@ commutes Y Z = record {
     outputs = λ a. or-comm (Z .output a) (Y .output a);
   };
   initial = refl;
-  compatible = λ s. ((λ k d. k (incompatible-swap Y Z s d)), (λ k d. k (incompatible-swap Z Y (swap s) d)));
-  steps = λ s a t. (between-swap Z Y a, between-swap Y Z a);
+  compatible = λ s. ((λ k d. k (incompatible-swap s d)), (λ k d. k (incompatible-swap (swap s) d)));
+  steps = λ s a t. (between-swap a, between-swap a);
 }
 
 -- ---- numbered automata, of any size
@@ -66,12 +66,6 @@ module _ (M N : NumberedAutomaton) (width : ℕ) (wM : WellFormed M) (wN : WellF
 
   abbrev n : ℕ
   n = N .states
-
-  abbrev X : InterfaceAutomaton
-  X = interface M
-
-  abbrev Y : InterfaceAutomaton
-  Y = interface N
 
   abbrev swapped : ℕ → ℕ
   swapped = swappedPair m n
@@ -94,12 +88,12 @@ module _ (M N : NumberedAutomaton) (width : ℕ) (wM : WellFormed M) (wN : WellF
   product-swap : (k a t : ℕ) → k < m * n → productNext M N k a ≡ some t → productNext N M (swapped k) a ≡ some (swapped t)
   product-swap k a t h e =
       of-product N M width wN wM nN nM (swapped k) a (t % n, t / n) (swapped-lt h)
-      (subst (λ s. Joint Y X s a (t % n, t / n)) (sym (swapped-split h)) (joint-swap X Y a (product-of M N width wM wN nM nN k a t h e))) .2
+      (subst (λ s. Joint (interface N) (interface M) s a (t % n, t / n)) (sym (swapped-split h)) (joint-swap a (product-of M N width wM wN nM nN k a t h e))) .2
 
   seed-swap : (k : ℕ) → k < m * n → T (illegal M N width k) → T (illegal N M width (swapped k))
   seed-swap k h t =
       illegal-of N M width wN wM nN nM (swapped k) .1
-      (subst (Illegal Y X) (sym (swapped-split h)) (illegal-swap X Y (illegal-of M N width wM wN nM nN k .0 t)))
+      (subst (Illegal (interface N) (interface M)) (sym (swapped-split h)) (illegal-swap (illegal-of M N width wM wN nM nN k .0 t)))
 
   walk-swap : (r k : ℕ) → k < m * n → Walk M N width r k → Walk N M width r (swapped k)
   walk-swap r k h (closure.here b) = closure.here (seed-swap k h b)
@@ -112,9 +106,9 @@ module _ (M N : NumberedAutomaton) (width : ℕ) (wM : WellFormed M) (wN : WellF
   composed-swap : (k a t : ℕ) → k < m * n → compositionNumbered M N width .next k a ≡ some t
       → compositionNumbered N M width .next (swapped k) a ≡ some (swapped t)
   composed-swap k a t h e =
-      let b = between-swap X Y a (composed-of M N width wM wN nM nN k a t h e .1) in
+      let b = between-swap a (composed-of M N width wM wN nM nN k a t h e .1) in
       let (u, f, l, p) = of-composed N M width wN wM nN nM (swapped k) a (t % n, t / n) (swapped-lt h)
-      (subst (λ s. Between Y X s a (t % n, t / n)) (sym (swapped-split h)) b) in
+      (subst (λ s. Between (interface N) (interface M) s a (t % n, t / n)) (sym (swapped-split h)) b) in
       f ∙ ap some (sym (pair-split n m posM u) ∙ ap (λ (s : ℕ × ℕ). pair m (s .0) (s .1)) p)
 
 -- What leads from M and N to N and M leads back.
