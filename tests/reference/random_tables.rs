@@ -74,18 +74,18 @@ pub fn refining_tables(r: &mut Random, (first, second): Sizes) -> (Table, Table)
     }
     let (_, mut y) = blank_pair(r, (first, second), MEETING, &[OUTPUT_OF_BOTH]);
     add_steps(r, &mut y);
-    let mut x = near_with_lists(r, &y, first, 40);
+    let mut x = near_or_loosened(r, &y, first, 40);
     if r.percent(4) {
         break_lists(r, &mut x, &mut y);
     }
     (x, y)
 }
 
-/// Three tables X, Y and Z: X often refines Y and mostly has its lists, and Y meets Z. At times X takes a signal of Z that Y does not know.
+/// Three tables X, Y and Z: X often refines Y and mostly has its lists, and Y meets Z. At times X takes a signal of Z that was none of its own.
 pub fn part_and_surroundings(r: &mut Random) -> (Table, Table, Table) {
     let (first, second, third) = sizes_of_three(r);
     let (y, z) = often_going_along(r, (second, third), MEETING, &[OUTPUT_OF_BOTH]);
-    let mut x = near_with_lists(r, &y, first, 15);
+    let mut x = near_or_loosened(r, &y, first, 15);
     if let Some(signal) = members(z.signals() & !x.signals()).find(|_| r.percent(10)) {
         declare(&mut x, signal, Input);
         take_more(r, &mut x);
@@ -105,10 +105,10 @@ fn sizes_of_three(r: &mut Random) -> (usize, usize, usize) {
     }
 }
 
-/// A table near the given one, with other lists in so many of a hundred cases.
-pub fn near_with_lists(r: &mut Random, table: &Table, states: usize, other_lists: usize) -> Table {
+/// A table near the given one; in so many of a hundred cases its lists are loosened.
+pub fn near_or_loosened(r: &mut Random, table: &Table, states: usize, percent_loosened: usize) -> Table {
     let mut near = near(r, table, states);
-    if r.percent(other_lists) {
+    if r.percent(percent_loosened) {
         loosen_lists(r, &mut near);
     }
     near

@@ -4,7 +4,7 @@
 
 use crate::archive;
 use crate::random::Random;
-use crate::random_tables::{near_with_lists, part_and_surroundings};
+use crate::random_tables::{near_or_loosened, part_and_surroundings};
 use crate::reply::Reply;
 use crate::table::{Table, NO_STEP, SIGNALS};
 use crate::tally::Tally;
@@ -13,7 +13,7 @@ const TOO_MANY_PAIRS: u32 = 9;
 
 const REFLEXIVE: &str = "X refines X";
 const CHAIN: &str = "W refines X and X refines Y; W refines Y";
-const NO_CHAIN: &str = "W does not refine X or X does not refine Y; W refines Y";
+const NO_CHAIN: &str = "no chain from W over X to Y; W refines Y";
 const SWAP: &str = "Z fits Y";
 
 const HOLD: &str = "premises hold";
@@ -22,6 +22,7 @@ const OTHER_LISTS: &str = "premise missing, the lists differ";
 const NO_FIT: &str = "premise missing, Y does not fit Z";
 const FITS: &str = "X fits Z";
 const REFINES: &str = "X with Z refines Y with Z";
+const STRICT: &str = "premises hold, and Y with Z does not refine X with Z";
 const DROP_AND_MOVE: &str = "premises hold, both compositions drop pairs, and their first pairs have a step";
 
 /// Tables W, X, Y and Z: W often refines X, X often refines Y, and Y meets Z.
@@ -51,7 +52,7 @@ pub fn run(seed: u64, count: u64, only: Option<u64>) -> bool {
     tally.finish()
 }
 
-/// Half of the cases are drawn until the composition of Y with Z drops pairs and moves; few do by chance.
+/// Half of the cases are drawn again, 49 times at most, until the composition of Y with Z drops pairs and moves; few do by chance.
 fn random_case(r: &mut Random) -> Case {
     let mut tries = r.pick(&[1, 50]);
     loop {
@@ -59,7 +60,7 @@ fn random_case(r: &mut Random) -> Case {
         tries -= 1;
         if tries == 0 || compose(&y, &z).drops_pairs_and_moves() {
             let states = r.between(1, 5);
-            return [near_with_lists(r, &x, states, 20), x, y, z];
+            return [near_or_loosened(r, &x, states, 20), x, y, z];
         }
     }
 }
@@ -127,20 +128,27 @@ fn try_substitution(tally: &mut Tally, case: &Case) -> Option<String> {
         (fits, _) => (FITS, fits),
     };
     tally.saw(&conclusion(premises, asked, answer));
-    if premises == HOLD && answer == Ok(true) && xz.drops_pairs_and_moves() && yz.drops_pairs_and_moves() {
-        tally.saw(DROP_AND_MOVE);
+    if (premises, asked, answer) == (HOLD, REFINES, Ok(true)) {
+        if xz.drops_pairs_and_moves() && yz.drops_pairs_and_moves() {
+            tally.saw(DROP_AND_MOVE);
+        }
+        if refines(&yz.table(), &xz.table()) == Ok(false) {
+            tally.saw(STRICT);
+        }
     }
     (premises == HOLD && contradicts(answer)).then(|| conclusion(premises, asked, answer))
 }
 
+/// Which premises hold; one that a refused call leaves open is not counted as missing.
 fn premises(x: &Table, y: &Table, yz: &Composition) -> &'static str {
     let same_lists = (x.inputs, x.outputs) == (y.inputs, y.outputs);
-    match (refines(x, y) == Ok(true), same_lists, verdict(&yz.reply) == Ok(true)) {
-        (true, true, true) => HOLD,
-        (false, true, true) => NO_REFINEMENT,
-        (true, false, true) => OTHER_LISTS,
-        (true, true, false) => NO_FIT,
-        _ => "several premises missing",
+    match (refines(x, y), same_lists, verdict(&yz.reply)) {
+        (Ok(true), true, Ok(true)) => HOLD,
+        (Ok(false), true, Ok(true)) => NO_REFINEMENT,
+        (Ok(true), false, Ok(true)) => OTHER_LISTS,
+        (Ok(true), true, Ok(false)) => NO_FIT,
+        (Ok(_), _, Ok(_)) => "several premises missing",
+        _ => "a premise is left open by a refusal",
     }
 }
 
@@ -175,10 +183,13 @@ fn conclusion(premises: &str, asked: &str, answer: Verdict) -> String {
     outcome(&format!("{premises}; {asked}"), answer)
 }
 
-/// Every outcome has to occur, and the premises of the substitution have to hold in a tenth of the cases.
+/// The conclusion has to be asked and confirmed in a tenth of the cases; in a twentieth with pairs dropped, and in a twentieth where the better part
+/// makes a difference. The other outcomes listed have to occur.
 fn ask_for_outcomes(tally: &mut Tally, count: u64) {
     tally.must_have_seen_at_least(&conclusion(HOLD, REFINES, Ok(true)), count.div_ceil(10));
-    tally.must_have_seen_at_least(DROP_AND_MOVE, count.div_ceil(20));
+    for outcome in [DROP_AND_MOVE, STRICT] {
+        tally.must_have_seen_at_least(outcome, count.div_ceil(20));
+    }
     tally.must_have_seen(&conclusion(HOLD, REFINES, Err(TOO_MANY_PAIRS)));
     tally.must_have_seen(&conclusion(HOLD, FITS, Err(TOO_MANY_PAIRS)));
     for missing in [NO_REFINEMENT, OTHER_LISTS, NO_FIT] {

@@ -76,7 +76,7 @@ module _ (M N : NumberedAutomaton) (width : ℕ) (wM : WellFormed M) (wN : WellF
   posN : zero < n
   posN = pos M N width wM wN nM nN
 
-  pub swapped-lt : {k : ℕ} → k < m * n → swapped k < n * m
+  swapped-lt : {k : ℕ} → k < m * n → swapped k < n * m
   swapped-lt {k} h = pair-lt n m posM (split-second m n posN k) (split-first m n posN h)
 
   swapped-split : {k : ℕ} → k < m * n → pairOf N M width wN wM nN nM (swapped k) ≡ (k % n, k / n)
@@ -111,7 +111,7 @@ module _ (M N : NumberedAutomaton) (width : ℕ) (wM : WellFormed M) (wN : WellF
       (subst (λ s. Between (interface N) (interface M) s a (t % n, t / n)) (sym (swapped-split h)) b) in
       f ∙ ap some (sym (pair-split n m posM u) ∙ ap (λ (s : ℕ × ℕ). pair m (s .0) (s .1)) p)
 
--- What leads from M and N to N and M leads back.
+-- One direction of each law; the other is the same law of N and M.
 module _ (M N : NumberedAutomaton) (width : ℕ) (wM : WellFormed M) (wN : WellFormed N) (nM : Narrow width M) (nN : Narrow width N) where
   rank-swap : (k r : ℕ) → k < M .states * N .states → closure.rank (incompatibility M N width) k ≡ some r
       → closure.rank (incompatibility N M width) (swappedPair (M .states) (N .states) k) ≡ some r
@@ -135,32 +135,40 @@ module _ (M N : NumberedAutomaton) (width : ℕ) (wM : WellFormed M) (wN : WellF
           let (s, h, f) = rounds-largest (M .states * N .states) width (illegal M N width) (sent M N) r e in
           rank-below (N .states * M .states) width (illegal N M width) (sent N M) _ r (swapped-lt M N width wM wN nM nN h) (rank-swap s r h f)
 
--- Ranks, rounds and steps of the two compositions are the same, pairs swapped.
-module _ (M N : NumberedAutomaton) (width : ℕ) (wM : WellFormed M) (wN : WellFormed N) (nM : Narrow width M) (nN : Narrow width N) where
-  pub ranks-swapped : (k : ℕ) → k < M .states * N .states
+-- Ranks, rounds and cells of the two compositions are the same, pairs swapped.
+pub record CommutesByNumber (M N : NumberedAutomaton) (width : ℕ) : Type 0 where
+  pub below : (k : ℕ) → k < M .states * N .states → swappedPair (M .states) (N .states) k < N .states * M .states
+  pub ranks : (k : ℕ) → k < M .states * N .states
       → closure.rank (incompatibility N M width) (swappedPair (M .states) (N .states) k) ≡ closure.rank (incompatibility M N width) k
-  ranks-swapped k h =
-      same-option _ _
-      (λ r e. subst (λ j. closure.rank (incompatibility M N width) j ≡ some r) (swapped-twice M N width wM wN nM nN h)
-      (rank-swap N M width wN wM nN nM _ r (swapped-lt M N width wM wN nM nN h) e))
-      (λ r e. rank-swap M N width wM wN nM nN k r h e)
-
-  pub rounds-swapped : closure.rounds (N .states * M .states) (incompatibility N M width) ≡ closure.rounds (M .states * N .states) (incompatibility M N width)
-  rounds-swapped = omega (arith, rounds-swap M N width wM wN nM nN, rounds-swap N M width wN wM nN nM)
-
-  pub cells-swapped : M .states * N .states ≤ 65535 → (k a : ℕ) → k < M .states * N .states
+  pub rounds : closure.rounds (N .states * M .states) (incompatibility N M width) ≡ closure.rounds (M .states * N .states) (incompatibility M N width)
+  pub cells : M .states * N .states ≤ 65535 → (k a : ℕ) → k < M .states * N .states
       → code (compositionNumbered N M width .next (swappedPair (M .states) (N .states) k) a)
       ≡ swappedCell (M .states) (N .states) (code (compositionNumbered M N width .next k a))
-  cells-swapped few k a h =
-      go (compositionNumbered M N width .next k a) (compositionNumbered N M width .next (swappedPair (M .states) (N .states) k) a)
+
+-- The cell of a step that is there in either order, or in neither.
+cell-swap : (m n : ℕ) (o p : Option ℕ) → ((t : ℕ) → o ≡ some t → (t < 65535) × (p ≡ some (swappedPair m n t)))
+    → ((u : ℕ) → p ≡ some u → o ≡ some (swappedPair n m u)) → code p ≡ swappedCell m n (code o)
+cell-swap m n none none f g = refl
+cell-swap m n none (some u) f g = absurd (Option·none-ne-some _ (g u refl))
+cell-swap m n (some t) p f g =
+    let (l, e) = f t refl in
+    ap code e ∙ sym (ap (λ b. cond b 65535 (swappedPair m n t)) (ne-eqb t 65535 (λ q. omega arith)))
+
+pub commutes-by-number : (M N : NumberedAutomaton) (width : ℕ) → WellFormed M → WellFormed N → Narrow width M → Narrow width N → CommutesByNumber M N width
+commutes-by-number M N width wM wN nM nN = record {
+  below = λ k h. below h;
+  ranks = λ k h. same-option _ _
+      (λ r e. subst (λ j. closure.rank (incompatibility M N width) j ≡ some r) (twice h) (rank-swap N M width wN wM nN nM _ r (below h) e))
+      (λ r e. rank-swap M N width wM wN nM nN k r h e);
+  rounds = omega (arith, rounds-swap M N width wM wN nM nN, rounds-swap N M width wN wM nN nM);
+  cells = λ few k a h. cell-swap (M .states) (N .states) (compositionNumbered M N width .next k a) _
       (λ t e. let l = composed-of M N width wM wN nM nN k a t h e .0 in (omega arith, composed-swap M N width wM wN nM nN k a t h e))
-      (λ u e. subst (λ j. compositionNumbered M N width .next j a ≡ some (swappedPair (N .states) (M .states) u)) (swapped-twice M N width wM wN nM nN h)
-      (composed-swap N M width wN wM nN nM _ a u (swapped-lt M N width wM wN nM nN h) e))
-    where
-      go : (o p : Option ℕ) → ((t : ℕ) → o ≡ some t → (t < 65535) × (p ≡ some (swappedPair (M .states) (N .states) t)))
-          → ((u : ℕ) → p ≡ some u → o ≡ some (swappedPair (N .states) (M .states) u)) → code p ≡ swappedCell (M .states) (N .states) (code o)
-      go none none f g = refl
-      go none (some u) f g = absurd (Option·none-ne-some _ (g u refl))
-      go (some t) p f g =
-          let (l, e) = f t refl in
-          ap code e ∙ sym (ap (λ b. cond b 65535 (swappedPair (M .states) (N .states) t)) (ne-eqb t 65535 (λ q. omega arith)))
+      (λ u e. subst (λ j. compositionNumbered M N width .next j a ≡ some (swappedPair (N .states) (M .states) u)) (twice h)
+      (composed-swap N M width wN wM nN nM _ a u (below h) e));
+}
+  where
+    below : {k : ℕ} → k < M .states * N .states → swappedPair (M .states) (N .states) k < N .states * M .states
+    below = swapped-lt M N width wM wN nM nN
+
+    twice : {k : ℕ} → k < M .states * N .states → swappedPair (N .states) (M .states) (swappedPair (M .states) (N .states) k) ≡ k
+    twice = swapped-twice M N width wM wN nM nN

@@ -1,4 +1,4 @@
--- Tables of one or two states that break each law of S-13 once a premise is left out.
+-- Tables of one or two states that break the substitution law once a premise is left out, and whose kept pairs move when they are swapped.
 use mathlib.Core.Path.{_≡_, refl, ap}
 use mathlib.Core.Bool.{cond}
 use Prim.Native.Nat.{ℕ, _*_}
@@ -18,8 +18,8 @@ use Rattle.theory.proofs.Verdicts.{compatible-tables, refines-tables}
 
 -- ---- the tables: the first state is 0, and a cell is a function of its place
 
-abbrev drawn : ℕ → ℕ → ℕ → (ℕ → ℕ) → Table
-drawn states inputs outputs cell = table (record { states = states; initial = 0; inputs = inputs; outputs = outputs }) (tabulate cell 0 (states * 32))
+abbrev tableOf : ℕ → ℕ → ℕ → (ℕ → ℕ) → Table
+tableOf states inputs outputs cell = table (record { states = states; initial = 0; inputs = inputs; outputs = outputs }) (tabulate cell 0 (states * 32))
 
 abbrev no-step : ℕ → ℕ
 no-step k = 65535
@@ -30,34 +30,34 @@ loop k = cond (eqb k 0) 0 65535
 
 -- One state each: takes signal 0, or only declares it; sends it; has no signal.
 abbrev taker : Table
-taker = drawn 1 1 0 loop
+taker = tableOf 1 1 0 loop
 
 abbrev unready : Table
-unready = drawn 1 1 0 no-step
+unready = tableOf 1 1 0 no-step
 
 abbrev sender : Table
-sender = drawn 1 0 1 loop
+sender = tableOf 1 0 1 loop
 
 abbrev bare : Table
-bare = drawn 1 0 0 no-step
+bare = tableOf 1 0 0 no-step
 
--- Declares the input 1, without a step; so does the other, which declares the output 0 too.
+-- Without steps: the input 1 is declared; so is the output 0 in the second.
 abbrev waiting : Table
-waiting = drawn 1 2 0 no-step
+waiting = tableOf 1 2 0 no-step
 
-abbrev reserved : Table
-reserved = drawn 1 2 1 no-step
+abbrev mute : Table
+mute = tableOf 1 2 1 no-step
 
 -- Sends signal 0, then signal 1.
 abbrev successive : Table
-successive = drawn 2 0 3 (λ k. cond (eqb k 0) 1 (cond (eqb k 33) 1 65535))
+successive = tableOf 2 0 3 (λ k. cond (eqb k 0) 1 (cond (eqb k 33) 1 65535))
 
 -- Two states each: the first takes, or sends, signal 0; the second has no step.
 abbrev taker-once : Table
-taker-once = drawn 2 1 0 loop
+taker-once = tableOf 2 1 0 loop
 
 abbrev sender-once : Table
-sender-once = drawn 2 0 1 loop
+sender-once = tableOf 2 0 1 loop
 
 -- ---- what they break
 
@@ -69,7 +69,7 @@ premises-needed =
     let sender-valid : Valid sender = checks-valid 1 sender .0 refl in
     let bare-valid : Valid bare = checks-valid 1 bare .0 refl in
     let waiting-valid : Valid waiting = checks-valid 1 waiting .0 refl in
-    let reserved-valid : Valid reserved = checks-valid 1 reserved .0 refl in
+    let mute-valid : Valid mute = checks-valid 1 mute .0 refl in
     let successive-valid : Valid successive = checks-valid 1 successive .0 refl in
     let unfit : ¬ Compatible (interfaceOf unready) (interfaceOf sender) = compatible-tables unready sender unready-valid sender-valid .1 in
     record {
@@ -79,8 +79,8 @@ premises-needed =
           (refines-tables unready bare unready-valid bare-valid .0 tt) (λ a. refl) (compatible-tables bare sender bare-valid sender-valid .0 tt));
       same-outputs = λ law.
           compatible-tables waiting successive waiting-valid successive-valid .1
-          (law waiting reserved successive waiting-valid reserved-valid successive-valid
-          (refines-tables waiting reserved waiting-valid reserved-valid .0 tt) (λ a. refl) (compatible-tables reserved successive reserved-valid successive-valid .0 tt));
+          (law waiting mute successive waiting-valid mute-valid successive-valid
+          (refines-tables waiting mute waiting-valid mute-valid .0 tt) (λ a. refl) (compatible-tables mute successive mute-valid successive-valid .0 tt));
       compatible = λ law. unfit (law unready unready sender unready-valid unready-valid sender-valid
           (refines-tables unready unready unready-valid unready-valid .0 tt) (record { inputs = λ a. refl; outputs = λ a. refl }));
     }
@@ -88,5 +88,5 @@ premises-needed =
 pub pairs-move : PairsMove
 unfolding tabulate any near after productNext illegal incompatibility composition first tableChecks eachTable compositionChecks
 pairs-move law =
-    let e : _≡_ {A = ℕ} 65535 0 = ap (λ l. getD l 2 0) (law taker-once sender-once (record { cells = 128; flags = 4; accepted = refl })) in
+    let e : _≡_ {A = ℕ} 1 0 = ap (λ l. getD l 2 0) (law taker-once sender-once (record { cells = 128; flags = 4; accepted = refl })) in
     omega arith

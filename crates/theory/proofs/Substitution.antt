@@ -8,7 +8,7 @@ use Rattle.theory.specs.Interface.{InterfaceAutomaton, action, compose, 
 use Rattle.theory.specs.Numbered.{WellFormed}
 use Rattle.theory.specs.Table.{Table, automaton}
 use Rattle.theory.specs.Valid.{Valid}
-use Rattle.theory.specs.Substitution.{SameLists, interfaceOf, SubstitutionLaws}
+use Rattle.theory.specs.Substitution.{SameLists, Holds, interfaceOf, SubstitutionLaws}
 use Rattle.theory.proofs.Tests.{or-cases, or-left, or-right, and-right}
 use Rattle.theory.proofs.Steps.{Stable, step-of, compatible-on, second-accepts, first-accepts, compose-deterministic}
 use Rattle.theory.proofs.Simulation.{match-input, match-output, matching, reflexive, transitive}
@@ -17,12 +17,33 @@ use Rattle.theory.proofs.Decided.{by-test, decided, compositions-decide
 use Rattle.theory.proofs.Table.{table-narrow, table-well-formed}
 use Rattle.theory.proofs.Commutative.{commutes}
 
+-- ---- automata with the same lists
+
+same-action : {X Y : InterfaceAutomaton} → SameLists X Y → (a : ℕ) → action X a ≡ action Y a
+same-action same a i = same .inputs a i || same .outputs a i
+
+same-lists-sym : {X Y : InterfaceAutomaton} → SameLists X Y → SameLists Y X
+same-lists-sym same = record { inputs = λ a. sym (same .inputs a); outputs = λ a. sym (same .outputs a) }
+
+module _ {X Y Z : InterfaceAutomaton} (same : SameLists X Y) (a : ℕ) {x x′ : X .State} {y y′ : Y .State} {z z′ : Z .State} (j : Joint X Z (x, z) a (x′, z′)) where
+  -- Beside the same move of Z, Y steps or stays as X does.
+  joint-step : T (action X a) → Y .step y a y′ → Joint Y Z (y, z) a (y′, z′)
+  joint-step s n = record {
+    known = subst (λ b. T (b || action Z a)) (same-action same a) (j .known);
+    first = steps (subst T (same-action same a) s) n;
+    second = j .second;
+  }
+
+  joint-stay : T (not (action X a)) → y ≡ y′ → Joint Y Z (y, z) a (y′, z′)
+  joint-stay s e = record {
+    known = subst (λ b. T (b || action Z a)) (same-action same a) (j .known);
+    first = stays (subst (λ b. T (not b)) (same-action same a) s) e;
+    second = j .second;
+  }
+
 -- ---- interface automata: X refines Y by ρ, and has the same lists
 
 module _ (X Y Z : InterfaceAutomaton) (cY : Stable Y) (cZ : Stable Z) (same : SameLists X Y) (ρ : X .State → Y .State → Type 0) (ref : RefinesBy X Y ρ) where
-  same-action : (a : ℕ) → action X a ≡ action Y a
-  same-action a i = same .inputs a i || same .outputs a i
-
   same-outputs : (a : ℕ) → (X .output a || Z .output a) ≡ (Y .output a || Z .output a)
   same-outputs a i = same .outputs a i || Z .output a
 
@@ -31,9 +52,6 @@ module _ (X Y Z : InterfaceAutomaton) (cY : Stable Y) (cZ : Stable Z) (same : Sa
       → Joint X Z (x, z) a (x′, z′) → (y′ : Y .State) × Joint Y Z (y, z) a (y′, z′) × ρ x′ y′
   match-sent {x} {x′} {y} {z} {z′} a h k t j = go (j .first)
     where
-      joint : {y′ : Y .State} → Moves Y a y y′ → Joint Y Z (y, z) a (y′, z′)
-      joint n = record { known = subst (λ b. T (b || action Z a)) (same-action a) (j .known); first = n; second = j .second }
-
       sent : T (action X a) → T (X .output a) ⊎ (T (Y .input a) × T (Z .output a))
       sent s = elim (or-cases (X .output a) (Z .output a) t) [
         | inl o ↦ inl o
@@ -41,18 +59,15 @@ module _ (X Y Z : InterfaceAutomaton) (cY : Stable Y) (cZ : Stable Z) (same : Sa
       ]
 
       go : Moves X a x x′ → (y′ : Y .State) × Joint Y Z (y, z) a (y′, z′) × ρ x′ y′
-      go (stays n e) = (y, joint (stays (subst (λ b. T (not b)) (same-action a) n) refl), subst (λ u. ρ u y) e h)
+      go (stays n e) = (y, joint-stay same a j n refl, subst (λ u. ρ u y) e h)
       go (steps s m) = elim (sent s) [
-        | inl o ↦ let (y′, n, h′) = match-output (ref .simulation) a h o m in (y′, joint (steps (subst T (same-action a) s) n), h′)
+        | inl o ↦ let (y′, n, h′) = match-output (ref .simulation) a h o m in (y′, joint-step same a j s n, h′)
         | inr (i, o) ↦
-            let (y′, n) = first-accepts Y Z a cY k o i (z′, step-of (or-right (Z .input a) (Z .output a) o) (j .second)) in (
-              y′,
-              joint (steps (subst T (same-action a) s) n),
-              ref .simulation .successors x x′ y y′ h a (or-left (Y .input a) (X .output a) i) m n,
-            )
+            let (y′, n) = first-accepts Y Z a cY k o i (z′, step-of (or-right (Z .input a) (Z .output a) o) (j .second)) in
+            (y′, joint-step same a j s n, ref .simulation .successors x x′ y y′ h a (or-left (Y .input a) (X .output a) i) m n)
       ]
 
-  -- Beside a state z where the pair of Y is compatible, a related state of X is compatible.
+  -- Where (y, z) is compatible and x is related to y, (x, z) is not illegal.
   legal : {x : X .State} {y : Y .State} {z : Z .State} → ρ x y → CompatiblePair Y Z (y, z) → ¬ Illegal X Z (x, z)
   legal {x} {y} {z} h k (of-first f) =
       f .cannot (second-accepts Y Z (f .sent) cZ k (subst T (same .outputs (f .sent)) (f .sends)) (f .takes)
@@ -61,30 +76,28 @@ module _ (X Y Z : InterfaceAutomaton) (cY : Stable Y) (cZ : Stable Z) (same : Sa
       let i : T (Y .input (f .sent)) = subst T (same .inputs (f .sent)) (f .takes) in
       f .cannot (ref .simulation .inputs x y h (f .sent) i (first-accepts Y Z (f .sent) cY k (f .sends) i (f .can)))
 
-  kept : (s : X .State × Z .State) → Incompatible X Z s → (y : Y .State) → ρ (s .0) y → ¬ CompatiblePair Y Z (y, s .1)
-  kept s (here i) y h k = legal h k i
-  kept s (there {t = t} a e d) y h k =
+  -- If (x, z) is incompatible, no related y is compatible with z.
+  incompatible-too : (s : X .State × Z .State) → Incompatible X Z s → (y : Y .State) → ρ (s .0) y → ¬ CompatiblePair Y Z (y, s .1)
+  incompatible-too s (here i) y h k = legal h k i
+  incompatible-too s (there {t = t} a e d) y h k =
       let (y′, j, h′) = match-sent a h k (e .sends) (e .joint) in
-      kept t d y′ h′ (compatible-on Y Z a k (subst T (same-outputs a) (e .sends)) j)
+      incompatible-too t d y′ h′ (compatible-on Y Z a k (subst T (same-outputs a) (e .sends)) j)
 
   pub replaces-compatible : Compatible Y Z → Compatible X Z
-  replaces-compatible fit d = kept (X .initial, Z .initial) d (Y .initial) (ref .initials) fit
+  replaces-compatible fit d = incompatible-too (X .initial, Z .initial) d (Y .initial) (ref .initials) fit
 
   -- An input step of Y beside Z is matched by X.
   match-taken : {x : X .State} {y y′ : Y .State} {z z′ : Z .State} (a : ℕ) → ρ x y → T (not (Y .output a || Z .output a))
       → Joint Y Z (y, z) a (y′, z′) → (x′ : X .State) × Joint X Z (x, z) a (x′, z′) × ρ x′ y′
   match-taken {x} {y} {y′} {z} {z′} a h n j = go (j .first)
     where
-      joint : {x′ : X .State} → Moves X a x x′ → Joint X Z (x, z) a (x′, z′)
-      joint l = record { known = subst (λ b. T (b || action Z a)) (sym (same-action a)) (j .known); first = l; second = j .second }
-
       taken : T (action Y a) → T (Y .input a)
       taken s = elim (or-cases (Y .input a) (Y .output a) s)
           [ inl i ↦ i | inr o ↦ absurd (T-not (Y .output a || Z .output a) n (or-left (Y .output a) (Z .output a) o)) ]
 
       go : Moves Y a y y′ → (x′ : X .State) × Joint X Z (x, z) a (x′, z′) × ρ x′ y′
-      go (stays u e) = (x, joint (stays (subst (λ b. T (not b)) (sym (same-action a)) u) refl), subst (λ u. ρ x u) e h)
-      go (steps s m) = let (x′, l, h′) = match-input (ref .simulation) a h (taken s) m in (x′, joint (steps (subst T (sym (same-action a)) s) l), h′)
+      go (stays u e) = (x, joint-stay (same-lists-sym same) a j u refl, subst (λ u. ρ x u) e h)
+      go (steps s m) = let (x′, l, h′) = match-input (ref .simulation) a h (taken s) m in (x′, joint-step (same-lists-sym same) a j s l, h′)
 
   -- Related states of X and Y beside the same state of Z, where the pair of Y is compatible.
   abbrev pub Beside : X .State × Z .State → Y .State × Z .State → Type 0
@@ -101,7 +114,7 @@ module _ (X Y Z : InterfaceAutomaton) (cY : Stable Y) (cZ : Stable Z) (same : Sa
           let j : Joint Y Z (t .0, s .1) a t′ = subst (λ u. Joint Y Z (t .0, u) a t′) (sym (h .0)) (m .joint) in
           let (x′, j′, h′) = match-taken a (h .1) (and-right (Y .input a || Z .input a) (not (Y .output a || Z .output a)) i) j in (
             (x′, t′ .1),
-            record { joint = j′; source = λ d. kept s d (t .0) (h .1) (h .2); target = λ d. kept (x′, t′ .1) d (t′ .0) h′ (m .target) },
+            record { joint = j′; source = λ d. incompatible-too s d (t .0) (h .1) (h .2); target = λ d. incompatible-too (x′, t′ .1) d (t′ .0) h′ (m .target) },
             (refl, h′, m .target),
           );
       outputs = λ s s′ t h a o m.
@@ -120,7 +133,7 @@ module _ (X Y Z : InterfaceAutomaton) (cY : Stable Y) (cZ : Stable Z) (same : Sa
 well-formed : (t : Table) → Valid t → WellFormed (automaton t)
 well-formed t v = table-well-formed t (v .initial)
 
-pub substitution-laws : (x y z : Table) → Valid x → Valid y → Valid z → SubstitutionLaws x y z
+pub substitution-laws : Holds SubstitutionLaws
 substitution-laws x y z vx vy vz = record {
   reflexive = decided (automaton x) (automaton x) 32 (well-formed x vx) (well-formed x vx) (table-narrow x) (table-narrow x)
       (reflexive (interfaceOf x) (numbered-deterministic (automaton x)));
