@@ -48,16 +48,16 @@ waiting = tableOf 1 2 0 no-step
 abbrev mute : Table
 mute = tableOf 1 2 1 no-step
 
--- Sends signal 0, then signal 1.
+-- Sends signal 0, then signal 1 any number of times.
 abbrev successive : Table
 successive = tableOf 2 0 3 (λ k. cond (eqb k 0) 1 (cond (eqb k 33) 1 65535))
 
 -- Two states each: the first takes, or sends, signal 0; the second has no step.
-abbrev taker-once : Table
-taker-once = tableOf 2 1 0 loop
+abbrev taker-at-first : Table
+taker-at-first = tableOf 2 1 0 loop
 
-abbrev sender-once : Table
-sender-once = tableOf 2 0 1 loop
+abbrev sender-at-first : Table
+sender-at-first = tableOf 2 0 1 loop
 
 -- ---- what they break
 
@@ -88,5 +88,5 @@ premises-needed =
 pub pairs-move : PairsMove
 unfolding tabulate any near after productNext illegal incompatibility composition first tableChecks eachTable compositionChecks
 pairs-move law =
-    let e : _≡_ {A = ℕ} 1 0 = ap (λ l. getD l 2 0) (law taker-once sender-once (record { cells = 128; flags = 4; accepted = refl })) in
+    let e : _≡_ {A = ℕ} 1 0 = ap (λ l. getD l 2 0) (law taker-at-first sender-at-first (record { cells = 128; flags = 4; accepted = refl })) in
     omega arith
