@@ -13,7 +13,7 @@ use Rattle.theory.specs.Table.{code}
 use Rattle.theory.specs.Substitution.{swap, Commutes, swappedPair, swappedCell}
 use Rattle.theory.proofs.Options.{when-of, of-when}
 use Rattle.theory.proofs.Closure.{same-option, closure-shortest, rank-below, rounds-largest}
-use Rattle.theory.proofs.Numbering.{split-pair, split-first, split-second, pair-lt, pair-split, pos, pairOf, product-of, of-product, illegal-of, composed-of, of-composed}
+use Rattle.theory.proofs.Numbering.{outputNext, split-pair, split-first, split-second, pair-lt, pair-split, pos, pairOf, product-of, of-product, illegal-of, composed-of, of-composed}
 
 -- ---- interface automata
 
@@ -53,12 +53,9 @@ commutes Y Z = record {
 
 -- ---- numbered automata, of any size
 
--- The search for incompatible pairs: its edges and walks.
-abbrev sent : NumberedAutomaton → NumberedAutomaton → ℕ → ℕ → Option ℕ
-sent M N k a = cond (M .output a || N .output a) (productNext M N k a) none
-
+-- The walks of the search for incompatible pairs.
 abbrev Walk : NumberedAutomaton → NumberedAutomaton → ℕ → ℕ → ℕ → Type 0
-Walk M N width = closure.Walk (M .states * N .states) width (illegal M N width) (sent M N)
+Walk M N width = closure.Walk (M .states * N .states) width (illegal M N width) (outputNext M N)
 
 module _ (M N : NumberedAutomaton) (width : ℕ) (wM : WellFormed M) (wN : WellFormed N) (nM : Narrow width M) (nN : Narrow width N) where
   abbrev m : ℕ
@@ -117,9 +114,9 @@ module _ (M N : NumberedAutomaton) (width : ℕ) (wM : WellFormed M) (wN : WellF
       → closure.rank (incompatibility N M width) (swappedPair (M .states) (N .states) k) ≡ some r
   unfolding incompatibility
   rank-swap k r h e =
-      let p = closure-shortest (M .states * N .states) width (illegal M N width) (sent M N) k r h .0 e in
+      let p = closure-shortest (M .states * N .states) width (illegal M N width) (outputNext M N) k r h .0 e in
       let h′ = swapped-lt M N width wM wN nM nN h in
-      closure-shortest (N .states * M .states) width (illegal N M width) (sent N M) (swappedPair (M .states) (N .states) k) r h′ .1 (record {
+      closure-shortest (N .states * M .states) width (illegal N M width) (outputNext N M) (swappedPair (M .states) (N .states) k) r h′ .1 (record {
         walk = walk-swap M N width wM wN nM nN r k h (p .walk);
         least = λ j w. p .least j (subst (Walk M N width j) (swapped-twice M N width wM wN nM nN h) (walk-swap N M width wN wM nN nM j _ h′ w));
       })
@@ -132,8 +129,8 @@ module _ (M N : NumberedAutomaton) (width : ℕ) (wM : WellFormed M) (wN : WellF
           → r ≤ closure.rounds (N .states * M .states) (incompatibility N M width)
       go zero e = omega arith
       go (suc r) e =
-          let (s, h, f) = rounds-largest (M .states * N .states) width (illegal M N width) (sent M N) r e in
-          rank-below (N .states * M .states) width (illegal N M width) (sent N M) _ r (swapped-lt M N width wM wN nM nN h) (rank-swap s r h f)
+          let (s, h, f) = rounds-largest (M .states * N .states) width (illegal M N width) (outputNext M N) r e in
+          rank-below (N .states * M .states) width (illegal N M width) (outputNext N M) _ r (swapped-lt M N width wM wN nM nN h) (rank-swap s r h f)
 
 -- Ranks, rounds and cells of the two compositions are the same, pairs swapped.
 pub record CommutesByNumber (M N : NumberedAutomaton) (width : ℕ) : Type 0 where

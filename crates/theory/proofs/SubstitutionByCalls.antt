@@ -106,9 +106,9 @@ module _ (y z : Table) (vy : Valid y) (vz : Valid z) (few : y .header .states * 
       cell-of (compositionNumbered N M 32) (swappedPair m n k) a (by-number .below k h) l
       ∙ by-number .cells (omega arith) k a h ∙ ap (swappedCell m n) (sym (cell-of (compositionNumbered M N 32) k a h l))
 
-  swapped-by-calls : ComposeAccepts z y → CommutesByCalls y z
+  commutes-by-calls : ComposeAccepts z y → CommutesByCalls y z
   unfolding composition
-  swapped-by-calls a = record {
+  commutes-by-calls a = record {
     accepted = a;
     compatible = verdict-swapped;
     header = header-swapped;
@@ -150,5 +150,5 @@ substitution-by-calls x y z = record {
   substitution = replaces-by-calls x y z;
   commutative = λ a.
       let (vy, vz, few, apart) = accepted-calls y z .compose .0 a in
-      swapped-by-calls y z vy vz few (accepted-calls z y .compose .1 (vz, vy, rw (mul-comm (z .header .states) (y .header .states)) few, λ s o u. apart s u o));
+      commutes-by-calls y z vy vz few (accepted-calls z y .compose .1 (vz, vy, rw (mul-comm (z .header .states) (y .header .states)) few, λ s o u. apart s u o));
 }
