@@ -9,14 +9,14 @@ use lib.Dec.{eqb, ltb, eqb→eq, nltb→le, not-T}
 use lib.ListN.{getD, length, take, drop, take-append-drop, length-replicate}
 use borrow.Author.Tests.{eq-eqb, ne-eqb, lt-ltb, le-ltb, le-leb, lt-leb}
 use Rattle.theory.specs.declared.Automaton.{Automaton}
+use Rattle.theory.specs.declared.Location.the-variants.{Cell}
 use Rattle.theory.specs.declared.Refusal.{Refusal}
 use Rattle.theory.specs.declared.Checked.{Checked}
 use Rattle.theory.specs.declared.Checked.the-variants.{Accepted, Refused}
 use Rattle.theory.specs.Bounded.{any}
 use Rattle.theory.specs.Table.{Table, table, member}
-use Rattle.theory.specs.Checks.{Check, first, refuse, declared, tableChecks}
+use Rattle.theory.specs.Checks.{Check, first, refuseAt, declared, isStray, isUndeclared, cellOf, tableChecks}
 use Rattle.theory.proofs.Tests.{or-right}
-use Rattle.theory.proofs.Bounded.{any-cong}
 use Rattle.theory.proofs.Checks.{orElse, first-append, passed-first}
 use Rattle.theory.proofs.Sets.{member-or}
 use Rattle.faults.specs.declared.Finding.{Finding}
@@ -39,11 +39,11 @@ module _ (m : ℕ) (l : List Check) (k : Checked) (first-part : k ≡ first (tak
 -- ---- what the walks find, as a refusal that names table i
 
 abbrev refusalOf : ℕ → Finding → Checked
-refusalOf i (Fault c k) = refuse c i
+refusalOf i (Fault c k) = refuseAt c i (cellOf k)
 refusalOf i Nothing = Accepted
 
 five-or-six : (i : ℕ) (five six : Bool) (x y : ℕ)
-    → cond five (refuse 5 i) (cond six (refuse 6 i) Accepted) ≡ refusalOf i (cond five (Fault 5 x) (cond six (Fault 6 y) Nothing))
+    → cond five (refuseAt 5 i (cellOf x)) (cond six (refuseAt 6 i (cellOf y)) Accepted) ≡ refusalOf i (cond five (Fault 5 x) (cond six (Fault 6 y) Nothing))
 five-or-six i true six x y = refl
 five-or-six i false true x y = refl
 five-or-six i false false x y = refl
@@ -61,27 +61,27 @@ module _ (i : ℕ) (a : Automaton) where
 
     -- ---- check_shape: each law has the tests that failed before its own
 
-    pub shape-1 : (k : Checked) → n ≡ 0 → k ≡ refuse 1 i → k ≡ first (take 4 (tableChecks i bare))
+    pub shape-1 : (k : Checked) → n ≡ 0 → k ≡ refuseAt 1 i (Cell 0 0) → k ≡ first (take 4 (tableChecks i bare))
     unfolding first tableChecks
     shape-1 k h e = rw (e, eq-eqb n 0 h)
 
     module _ (some : n ≡ 0 → ⊥) where
-      pub shape-1-many : (k : Checked) → 4096 < n → k ≡ refuse 1 i → k ≡ first (take 4 (tableChecks i bare))
+      pub shape-1-many : (k : Checked) → 4096 < n → k ≡ refuseAt 1 i (Cell 0 0) → k ≡ first (take 4 (tableChecks i bare))
       unfolding first tableChecks
       shape-1-many k h e = rw (e, ne-eqb n 0 some, lt-ltb 4096 n h)
 
       module _ (few : n ≤ 4096) where
-        pub shape-2 : (k : Checked) → n ≤ a .initial → k ≡ refuse 2 i → k ≡ first (take 4 (tableChecks i bare))
+        pub shape-2 : (k : Checked) → n ≤ a .initial → k ≡ refuseAt 2 i (Cell 0 0) → k ≡ first (take 4 (tableChecks i bare))
         unfolding first tableChecks
         shape-2 k h e = rw (e, ne-eqb n 0 some, le-ltb 4096 n few, le-leb n (a .initial) h)
 
         module _ (starts : a .initial < n) (b : Bool) (shared : b ≡ any 32 (λ x. member (a .inputs) x && member (a .outputs) x)) where
-          pub shape-3 : (k : Checked) → b ≡ true → k ≡ refuse 3 i → k ≡ first (take 4 (tableChecks i bare))
+          pub shape-3 : (k : Checked) → b ≡ true → k ≡ refuseAt 3 i (Cell 0 0) → k ≡ first (take 4 (tableChecks i bare))
           unfolding first tableChecks
           shape-3 k h e = rw (e, ne-eqb n 0 some, le-ltb 4096 n few, lt-leb n (a .initial) starts, ← shared, h)
 
           module _ (disjoint : b ≡ false) where
-            pub shape-4 : (k : Checked) → (count ≡ n * 32 → ⊥) → k ≡ refuse 4 i → k ≡ first (take 4 (tableChecks i bare))
+            pub shape-4 : (k : Checked) → (count ≡ n * 32 → ⊥) → k ≡ refuseAt 4 i (Cell 0 0) → k ≡ first (take 4 (tableChecks i bare))
             unfolding first tableChecks
             shape-4 k h e =
                 rw (e, ne-eqb n 0 some, le-ltb 4096 n few, lt-leb n (a .initial) starts, ← shared, disjoint, many, ne-eqb count (n * 32) h)
@@ -129,18 +129,18 @@ module _ (i : ℕ) (a : Automaton) where
         pub narrow : n < 2 ^ 16
         narrow = omega (arith, sized .few)
 
-        undeclared : (d : ℕ) → d ≡ bitOr (a .inputs) (a .outputs)
-            → any (n * 32) (λ k. ltb (getD cells k 65535) n && not (declared t (k % 32))) ≡ any (n * 32) (faultAt true n d cells)
-        undeclared d lists = any-cong (n * 32) _ (faultAt true n d cells) (λ k l. rw (union 0 d (k % 32) lists))
+        -- Check 6 and its walk find the same cells at fault.
+        undeclared : (d : ℕ) → d ≡ bitOr (a .inputs) (a .outputs) → faultAt true n d cells ≡ isUndeclared t
+        undeclared d lists = λ j k. ltb (getD cells k 65535) n && not (union 0 d (k % 32) lists j)
 
         module _ (d : ℕ) (f : Finding) (lists : d ≡ bitOr (a .inputs) (a .outputs)) (walked : f ≡ firstFault n d cells) where
           found : first (tableChecks i t) ≡ refusalOf i f
           unfolding first tableChecks firstFault
           found =
-              part-accepted 4 (tableChecks i t) k shape fine ∙ rw (undeclared d lists, walked, whole)
-              (five-or-six i (any (n * 32) (faultAt false n d cells)) (any (n * 32) (faultAt true n d cells)) _ _)
+              part-accepted 4 (tableChecks i t) k shape fine ∙ rw (walked, whole, undeclared d lists)
+              (five-or-six i (any (n * 32) (isStray t)) (any (n * 32) (isUndeclared t)) _ _)
 
-          pub check-cells : (c at : ℕ) (x : Checked) → f ≡ Fault c at → x ≡ refuse c i → x ≡ first (tableChecks i t)
+          pub check-cells : (c at : ℕ) (x : Checked) → f ≡ Fault c at → x ≡ refuseAt c i (cellOf at) → x ≡ first (tableChecks i t)
           check-cells c at x h e = e ∙ sym (found ∙ ap (refusalOf i) h)
 
           pub check-ok : f ≡ Nothing → Accepted ≡ first (tableChecks i t)

@@ -7,12 +7,15 @@ ghost use lib.Bits.{bitOr};
 ghost use lib.ListN.{length, take, replicate};
 ghost use Rattle.theory.specs.Bounded.{any};
 ghost use Rattle.theory.specs.Table.{table, member, mirrorHeader};
-ghost use Rattle.theory.specs.Checks.{first, refuse as refused, tableChecks};
+ghost use Rattle.theory.specs.declared.Location.the-variants.{Cell, Nowhere};
+ghost use Rattle.theory.specs.Checks.{first, refuse as refused, refuseAt as refusedAt, cellOf, tableChecks};
 ghost use Rattle.automaton.specs.Replies.{mirrorReply};
+ghost use Rattle.automaton.specs.Statuses.{unplaced as unplacedStatus, statusOf};
 ghost use Rattle.automaton.specs.Cells.{stepless};
 use faults::Finding;
 use theory::Automaton;
 use theory::Checked;
+use theory::Location;
 use theory::Refusal;
 
 // The mirror's numbers; its cells are the automaton's own.
@@ -21,18 +24,87 @@ pub enum Mirrored {
     Refused(Refusal),
 }
 
-// Every refusal is made here, those of the calls on two automata too.
-pub fn refusal(number: u32, table: u32) -> Refusal
-    ensures { λ r. ⌜ r ≡ record { number = number; table = table } ⌝ }
-{
-    Refusal { number, table }
+// A refusal in numbers, for replies that hold no enum (C's): why, of which table, whether a cell is named, and which. All is 0 where nothing is refused,
+// and the cell's numbers are where none is named.
+pub struct Status {
+    pub number: u32,
+    pub table: u32,
+    pub placed: bool,
+    pub state: usize,
+    pub action: usize,
 }
 
-// The reply of the checks that turns a call away.
+// Makes every refusal, those of the calls on two automata too.
+pub fn refusal_at(number: u32, table: u32, location: Location) -> Refusal
+    ensures { λ r. ⌜ r ≡ record { number = number; table = table; location = location } ⌝ }
+{
+    Refusal {
+        number,
+        table,
+        location,
+    }
+}
+
+// Makes a refusal that names no cell: document 02's numbers from 7 on.
+pub fn refusal(number: u32, table: u32) -> Refusal
+    ensures { λ r. ⌜ r ≡ record { number = number; table = table; location = Nowhere } ⌝ }
+{
+    refusal_at(number, table, Location::Nowhere)
+}
+
+// Turns a call away by a number from 7 on.
 pub fn refuse(number: u32, table: u32) -> Checked
     ensures { λ r. ⌜ r ≡ refused number table ⌝ }
 {
     Checked::Refused(refusal(number, table))
+}
+
+// Turns a call away by 5 or 6, at the cell with this index.
+fn refuse_cell(number: u32, table: u32, cell: usize) -> Checked
+    ensures { λ r. ⌜ r ≡ refusedAt number table (cellOf cell) ⌝ }
+{
+    let location = Location::Cell {
+        state: cell / 32,
+        action: cell % 32,
+    };
+    Checked::Refused(refusal_at(number, table, location))
+}
+
+// Turns a call away by a number from 1 to 4: they name the first cell, that of state 0 and action 0 (document 02, S-2).
+fn refuse_table(number: u32, table: u32) -> Checked
+    ensures { λ r. ⌜ r ≡ refusedAt number table (Cell 0 0) ⌝ }
+{
+    refuse_cell(number, table, 0)
+}
+
+// Gives a refusal that names no cell in numbers; with 0 and 0, that nothing is refused.
+pub fn unplaced(number: u32, table: u32) -> Status
+    ensures { λ r. ⌜ r ≡ unplacedStatus number table ⌝ }
+{
+    Status {
+        number,
+        table,
+        placed: false,
+        state: 0,
+        action: 0,
+    }
+}
+
+// Gives a refusal in numbers.
+pub fn status_of(why: Refusal) -> Status
+    ensures { λ r. ⌜ r ≡ statusOf why ⌝ }
+{
+    let location = why.location;
+    match location {
+        Location::Cell { state, action } => Status {
+            number: why.number,
+            table: why.table,
+            placed: true,
+            state,
+            action,
+        },
+        Location::Nowhere => unplaced(why.number, why.table),
+    }
 }
 
 // The actions of both lists.
@@ -54,19 +126,19 @@ pub fn check_shape(a: Automaton, cells: usize, number: u32) -> Checked
     ensures { λ r. ⌜ r ≡ first (take 4 (tableChecks number (stepless a cells))) ⌝ }
 {
     if a.states == 0 {
-        return refuse(1, number);
+        return refuse_table(1, number);
     }
     if 4096 < a.states {
-        return refuse(1, number);
+        return refuse_table(1, number);
     }
     if a.states <= a.initial {
-        return refuse(2, number);
+        return refuse_table(2, number);
     }
     if overlap(a.inputs, a.outputs) {
-        return refuse(3, number);
+        return refuse_table(3, number);
     }
     if cells != a.states * 32 {
-        return refuse(4, number);
+        return refuse_table(4, number);
     }
     Checked::Accepted
 }
@@ -80,7 +152,7 @@ pub fn check(a: Automaton, cells: &[u16], number: u32) -> Checked
         return shape;
     };
     match faults::find(cells, a.states as u16, declared(a)) {
-        Finding::Fault { check, cell: _ } => refuse(check, number),
+        Finding::Fault { check, cell } => refuse_cell(check, number, cell),
         Finding::Nothing => Checked::Accepted,
     }
 }

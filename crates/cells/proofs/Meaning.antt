@@ -7,9 +7,10 @@ use native.Mathlib.Omega.{arith}
 use lib.Dec.{T, eqb, leb}
 use lib.ListN.{getD, length}
 use borrow.Author.Tests.{eq-eqb, ne-eqb, le-ltb}
+use Rattle.theory.specs.declared.Location.the-variants.{Cell}
 use Rattle.theory.specs.Bounded.{any}
 use Rattle.theory.specs.Table.{member}
-use Rattle.theory.specs.Checks.{first, refuse, check4, tableChecks}
+use Rattle.theory.specs.Checks.{first, refuseAt, check4, tableChecks}
 use Rattle.theory.proofs.Filled.{any-default}
 use Rattle.cells.specs.Bytes.{cellsOfBytes, tableOfBytes}
 use Rattle.cells.proofs.Laws.{cellIn, at-cell, count-odd, count-all, cells-count, cells-at}
@@ -24,7 +25,8 @@ module _ (states : ℕ) (bytes : List ℕ) (few : states ≤ 4096) where
   -- In 4's place of the order: 2 and 3 come before it, 5 and 6 after.
   pub four-in-place : (i initial inputs outputs : ℕ) → 0 < states → (length bytes ≡ states * 64 → ⊥)
       → first (tableChecks i (tableOfBytes states initial inputs outputs bytes))
-      ≡ cond (leb states initial) (refuse 2 i) (cond (any 32 (λ a. member inputs a && member outputs a)) (refuse 3 i) (refuse 4 i))
+      ≡ cond (leb states initial) (refuseAt 2 i (Cell 0 0))
+      (cond (any 32 (λ a. member inputs a && member outputs a)) (refuseAt 3 i (Cell 0 0)) (refuseAt 4 i (Cell 0 0)))
   unfolding first tableChecks
   four-in-place i initial inputs outputs some odd =
       rw (ne-eqb states 0 (λ e. omega arith), le-ltb 4096 states few, cells-count states bytes, ← count-odd states (length bytes) few odd, ne-eqb 0 (states * 32) (λ e. omega arith))

@@ -14,7 +14,7 @@ use Rattle.theory.specs.declared.Refusal.{Refusal}
 use Rattle.theory.specs.declared.Checked.{Checked}
 use Rattle.theory.specs.declared.Checked.the-variants.{Accepted, Refused}
 use Rattle.theory.specs.Table.{table}
-use Rattle.theory.specs.Checks.{Check, first, refuse, tableChecks, eachTable}
+use Rattle.theory.specs.Checks.{Check, refuse, unplaced, first, tableChecks, eachTable}
 use Rattle.theory.proofs.Checks.{first-refused, first-accepted, first-part, checks-valid}
 use Rattle.checks.specs.declared.Room.{Room}
 use Rattle.checks.specs.declared.Room.the-variants as room
@@ -32,11 +32,11 @@ module _ (l m : List Check) (j : Checked) (begun : j ≡ first l) where
 -- ---- one check, then others
 
 module _ (n i : ℕ) (f : Bool) (m : List Check) (b : Bool) (same : b ≡ f) (k : Checked) where
-  pub applied : b ≡ true → k ≡ refuse n i → k ≡ first (record { number = n; table = i; applies = f } ∷ m)
+  pub applied : b ≡ true → k ≡ refuse n i → k ≡ first (unplaced n i f ∷ m)
   unfolding first
   applied h e = rw (e, ← same, h)
 
-  pub passed : b ≡ false → k ≡ first m → k ≡ first (record { number = n; table = i; applies = f } ∷ m)
+  pub passed : b ≡ false → k ≡ first m → k ≡ first (unplaced n i f ∷ m)
   unfolding first
   passed h e = rw (← same, h) e
 

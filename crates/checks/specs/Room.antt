@@ -4,7 +4,7 @@ use mathlib.Core.List.{List, [], _∷_, _++_}
 use Prim.Native.Nat.{ℕ, _*_, _≤_}
 use lib.Dec.{eqb, ltb}
 use Rattle.theory.specs.Table.{Table}
-use Rattle.theory.specs.Checks.{Check, eachTable, check7}
+use Rattle.theory.specs.Checks.{Check, unplaced, eachTable, check7}
 use Rattle.checks.specs.declared.Room.{Room}
 use Rattle.checks.specs.declared.Room.the-variants as room
 
@@ -21,8 +21,7 @@ oddFor pairs (room.Both cells bytes) = not (eqb cells (pairs * 32)) || not (eqb 
 
 -- 9, then 10.
 unfoldable pub sizeChecks : ℕ → Room → List Check
-sizeChecks pairs r =
-    record { number = 9; table = 0; applies = ltb 4096 pairs } ∷ record { number = 10; table = 0; applies = oddFor pairs r } ∷ []
+sizeChecks pairs r = unplaced 9 0 (ltb 4096 pairs) ∷ unplaced 10 0 (oddFor pairs r) ∷ []
 
 -- 1 to 6 of each, 7, 9, 10.
 unfoldable pub composableChecks : Table → Table → Room → List Check

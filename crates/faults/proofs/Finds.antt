@@ -8,10 +8,10 @@ use native.Mathlib.Omega.{arith}
 use lib.Dec.{eqb, ltb}
 use borrow.Author.Tests.{eq-eqb, ne-eqb, lt-ltb, le-ltb}
 use Rattle.theory.specs.Bounded.{any}
+use Rattle.theory.proofs.Lowest.{lowest-any}
 use Rattle.faults.specs.declared.Walked.{Walked}
 use Rattle.faults.specs.declared.Finding.the-variants.{Fault, Nothing}
 use Rattle.faults.specs.Cells.{faultAt, inRows, SoundBefore, Ended, firstFault}
-use Rattle.faults.proofs.Least.{least-any}
 
 -- No cell is at fault by a check before this one.
 pub record PassedBefore (n acts : ℕ) (cells : List ℕ) (check : ℕ) : Type 0 where
@@ -37,7 +37,7 @@ module _ (n acts : ℕ) (cells : List ℕ) where
 
     -- Some cell is at fault exactly if the walk ends at one.
     at-fault : (six : Bool) → Ended six n acts cells w → any (inRows cells) (faultAt six n acts cells) ≡ ltb (w .at) (inRows cells)
-    at-fault six e = rw (e .first) (sym (least-any (faultAt six n acts cells) (inRows cells)))
+    at-fault six e = rw (e .first) (sym (lowest-any (faultAt six n acts cells) (inRows cells)))
 
     pub passed-on : inRows cells ≤ w .at → PassedBefore n acts cells (check + 1)
     passed-on none = elim (ℕ-discrete check 6) [

@@ -1,4 +1,3 @@
-pub mod Least
 pub mod Rows
 pub mod Sound
 pub mod Finds

@@ -9,10 +9,10 @@ use lib.Arith.{digits-mod}
 use lib.Dec.{leb}
 use lib.ListN.{getD, length}
 use borrow.Author.Tests.{eq-eqb, ne-eqb, lt-ltb, le-ltb}
-use Rattle.theory.specs.Bounded.{any}
+use Rattle.theory.specs.Bounded.{any, lowest}
 use Rattle.theory.specs.Table.{member}
-use Rattle.faults.specs.Cells.{fault, faultAt, least, SoundBefore}
-use Rattle.faults.proofs.Least.{pass, found, passed, reach}
+use Rattle.theory.proofs.Lowest.{pass, found, passed, reach}
+use Rattle.faults.specs.Cells.{fault, faultAt, SoundBefore}
 
 module _ (six : Bool) (n acts cell a : ℕ) where
   pub no-step : six ≡ true → n ≤ cell → false ≡ fault six n acts cell a
@@ -48,10 +48,10 @@ module _ (six : Bool) (cells : List ℕ) (n acts count row a : ℕ) (r : Bool) (
   pub walk-on : r ≡ false → any (row * 32 + (a + 1)) (faultAt six n acts cells) ≡ false
   walk-on e = reach _ (row * 32 + a + 1) (row * 32 + (a + 1)) (pass _ (row * 32 + a) before (here ∙ e)) (omega arith)
 
-  pub walk-found : r ≡ true → row * 32 + a ≡ least (length cells / 32 * 32) (faultAt six n acts cells)
+  pub walk-found : r ≡ true → row * 32 + a ≡ lowest (length cells / 32 * 32) (faultAt six n acts cells)
   walk-found e = found _ (length cells / 32 * 32) (row * 32 + a) (omega arith) before (here ∙ e)
 
 pub walk-end : (six : Bool) (cells : List ℕ) (n acts count row at : ℕ) → count ≡ length cells / 32 → at ≡ count * 32 → row ≤ count → count ≤ row
-    → any (row * 32) (faultAt six n acts cells) ≡ false → at ≡ least (length cells / 32 * 32) (faultAt six n acts cells)
+    → any (row * 32) (faultAt six n acts cells) ≡ false → at ≡ lowest (length cells / 32 * 32) (faultAt six n acts cells)
 walk-end six cells n acts count row at rows e h l before =
     e ∙ rw rows (passed _ (length cells / 32 * 32) (reach _ (row * 32) (length cells / 32 * 32) before (omega arith)))

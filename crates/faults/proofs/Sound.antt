@@ -15,8 +15,8 @@ use Rattle.theory.specs.Table.{member}
 use Rattle.theory.specs.Checks.{stray}
 use Rattle.theory.proofs.Bounded.{length-tabulate}
 use Rattle.theory.proofs.Filled.{filled-of}
+use Rattle.theory.proofs.Lowest.{none-at, none-below}
 use Rattle.faults.specs.Cells.{fault, faultAt, limit, strayIn, SoundBefore}
-use Rattle.faults.proofs.Least.{none-at, none-below}
 use Rattle.faults.proofs.Rows.{within, sound-same}
 
 -- ---- limit

@@ -2,20 +2,15 @@
 use mathlib.Core.Path.{_≡_}
 use mathlib.Core.Bool.{Bool, true, false, not, _&&_, cond}
 use mathlib.Core.List.{List}
-use Prim.Native.Nat.{ℕ, zero, suc, _+_, _*_, _/_, _%_, _≤_}
+use Prim.Native.Nat.{ℕ, _+_, _*_, _/_, _%_, _≤_}
 use lib.Dec.{ltb}
 use lib.ListN.{getD, length}
-use Rattle.theory.specs.Bounded.{any}
+use Rattle.theory.specs.Bounded.{any, lowest}
 use Rattle.theory.specs.Table.{member}
 use Rattle.theory.specs.Checks.{stray}
 use Rattle.faults.specs.declared.Walked.{Walked}
 use Rattle.faults.specs.declared.Finding.{Finding}
 use Rattle.faults.specs.declared.Finding.the-variants.{Fault, Nothing}
-
--- The least number below n that passes the test; n if none does.
-unfoldable pub least : ℕ → (ℕ → Bool) → ℕ
-least zero f = 0
-least (suc n) f = cond (any n f) (least n f) (cond (f n) n (suc n))
 
 -- A cell of n states is at fault by check 5 (false) or by check 6 (true); acts has the actions of both lists.
 abbrev pub fault : Bool → ℕ → ℕ → ℕ → ℕ → Bool
@@ -33,8 +28,8 @@ inRows cells = length cells / 32 * 32
 -- What the two walks find: the first cell at fault by check 5; where there is none, the first by check 6.
 unfoldable pub firstFault : ℕ → ℕ → List ℕ → Finding
 firstFault n acts cells =
-    cond (any (inRows cells) (faultAt false n acts cells)) (Fault 5 (least (inRows cells) (faultAt false n acts cells)))
-    (cond (any (inRows cells) (faultAt true n acts cells)) (Fault 6 (least (inRows cells) (faultAt true n acts cells))) Nothing)
+    cond (any (inRows cells) (faultAt false n acts cells)) (Fault 5 (lowest (inRows cells) (faultAt false n acts cells)))
+    (cond (any (inRows cells) (faultAt true n acts cells)) (Fault 6 (lowest (inRows cells) (faultAt true n acts cells))) Nothing)
 
 -- ---- within the walks
 
@@ -53,5 +48,5 @@ pub record SoundBefore (n acts : ℕ) (cells : List ℕ) (row : ℕ) : Type 0 wh
 
 -- A walk's end: at the first cell at fault; and a row that the next walk may begin at.
 pub record Ended (six : Bool) (n acts : ℕ) (cells : List ℕ) (w : Walked) : Type 0 where
-  pub first : w .at ≡ least (inRows cells) (faultAt six n acts cells)
+  pub first : w .at ≡ lowest (inRows cells) (faultAt six n acts cells)
   pub before : SoundBefore n acts cells (w .row)

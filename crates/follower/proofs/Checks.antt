@@ -1,4 +1,4 @@
--- The replies of `check_place`, one law for each return: 11 and 12 after automaton's four.
+-- The replies of `check_position`, one law for each return: 11 and 12 after automaton's four.
 use mathlib.Core.Path.{_≡_, sym, _∙_}
 use mathlib.Core.Bool.{Bool, true, false, not}
 use mathlib.Core.List.{List}

@@ -8,11 +8,13 @@ use lib.Dec.{eqb, nleb→lt, not-T}
 use lib.ListN.{getD, length, take, length-replicate}
 use borrow.Author.Tests.{eq-eqb, ne-eqb, lt-ltb, le-ltb, le-leb, lt-leb}
 use Rattle.theory.specs.declared.Automaton.{Automaton}
+use Rattle.theory.specs.declared.Location.{Location}
+use Rattle.theory.specs.declared.Location.the-variants.{Cell}
 use Rattle.theory.specs.declared.Refusal.{Refusal}
 use Rattle.theory.specs.declared.Checked.{Checked}
 use Rattle.theory.specs.declared.Checked.the-variants.{Accepted, Refused}
 use Rattle.theory.specs.Table.{Table, table, decode}
-use Rattle.theory.specs.Checks.{first, refuse, stray, declared, tableChecks, monitorChecks, unlessRefused}
+use Rattle.theory.specs.Checks.{first, refuseAt, stray, declared, tableChecks, monitorChecks, unlessRefused}
 use Rattle.theory.proofs.Checks.{passed-first, first-part}
 use Rattle.theory.proofs.Table.{table-narrow}
 use Rattle.faults.proofs.Rows.{within}
@@ -24,22 +26,22 @@ use Rattle.follower.specs.Replies.{followReply, moved, ownReply}
 
 -- ---- advance
 
-module _ (n cell : ℕ) where
-  pub own-moved : cell < n → followed.Moved cell ≡ ownReply n cell
+module _ (n s a cell : ℕ) where
+  pub own-moved : cell < n → followed.Moved cell ≡ ownReply n s a cell
   own-moved h = rw (lt-leb n cell h, and-false (not (eqb cell 65535)), lt-ltb cell n h)
 
-  pub own-none : n ≤ cell → cell ≡ 65535 → followed.NotNow ≡ ownReply n cell
+  pub own-none : n ≤ cell → cell ≡ 65535 → followed.NotNow ≡ ownReply n s a cell
   own-none h e = rw (eq-eqb cell 65535 e, le-ltb cell n h)
 
-  pub own-stray : (r : Refusal) → n ≤ cell → (cell ≡ 65535 → ⊥) → r ≡ record { number = 5; table = 1 } → followed.Refused r ≡ ownReply n cell
+  pub own-stray : (r : Refusal) → n ≤ cell → (cell ≡ 65535 → ⊥) → r ≡ record { number = 5; table = 1; location = Cell s a } → followed.Refused r ≡ ownReply n s a cell
   own-stray r h e f = rw (f, ne-eqb cell 65535 e, le-leb n cell h)
 
 -- ---- follow
 
-five : (b : Bool) (f : Followed)
-    → unlessRefused (cond b (refuse 5 1) Accepted) followed.Refused f ≡ cond b (followed.Refused (record { number = 5; table = 1 })) f
-five true f = refl
-five false f = refl
+five : (b : Bool) (l : Location) (f : Followed)
+    → unlessRefused (cond b (refuseAt 5 1 l) Accepted) followed.Refused f ≡ cond b (followed.Refused (record { number = 5; table = 1; location = l })) f
+five true l f = refl
+five false l f = refl
 
 -- Enough cells, the monitor's own among them (checks 1, 4, 11, 12).
 record Placed (n : ℕ) (cells : List ℕ) (s a : ℕ) : Type 0 where
@@ -87,8 +89,8 @@ module _ (h : Automaton) (cells : List ℕ) (s a : ℕ) where
       pub follow-byte : (s * 32 + a) * 2 < 2 ^ 64
       follow-byte = omega (arith, placed)
 
-      pub follow-own : (f : Followed) → f ≡ ownReply (h .states) (getD cells (s * 32 + a) 0) → f ≡ followReply t s a
+      pub follow-own : (f : Followed) → f ≡ ownReply (h .states) s a (getD cells (s * 32 + a) 0) → f ≡ followReply t s a
       unfolding first monitorChecks followReply
       follow-own f e =
           rw (part-accepted 6 (monitorChecks 1 t s a) k place fine, lt-ltb a 32 (placed .narrow), within cells (s * 32 + a) 65535 0 follow-at)
-          (e ∙ sym (five (stray (h .states) (getD cells (s * 32 + a) 0)) (moved (decode (h .states) (getD cells (s * 32 + a) 0)))))
+          (e ∙ sym (five (stray (h .states) (getD cells (s * 32 + a) 0)) (Cell s a) (moved (decode (h .states) (getD cells (s * 32 + a) 0)))))

@@ -7,6 +7,7 @@ ghost use Rattle.automaton.specs.Cells.{stepless};
 ghost use Rattle.follower.specs.Replies.{ownReply, followReply};
 use theory::Automaton;
 use theory::Checked;
+use theory::Location;
 use theory::Refusal;
 
 // The monitor's reply (document 01: the follower's): where it moved to, "not now", or a refusal.
@@ -17,7 +18,7 @@ pub enum Followed {
 }
 
 // The monitor's checks before it reads a cell: 1 to 4, 11, 12; `cells` is how many there are.
-pub fn check_place(a: Automaton, cells: usize, state: usize, action: usize) -> Checked
+pub fn check_position(a: Automaton, cells: usize, state: usize, action: usize) -> Checked
     ensures { λ r. ⌜ r ≡ first (take 6 (monitorChecks 1 (stepless a cells) state action)) ⌝ }
 {
     let shape = automaton::check_shape(a, cells, 1);
@@ -33,9 +34,9 @@ pub fn check_place(a: Automaton, cells: usize, state: usize, action: usize) -> C
     Checked::Accepted
 }
 
-// What the monitor's own cell says: a step, none, or check 5.
-pub fn advance(cell: u16, states: usize) -> Followed
-    ensures { λ r. ⌜ r ≡ ownReply states cell ⌝ }
+// What the monitor's own cell, at a state and for an action, says: a step, none, or check 5.
+pub fn advance(cell: u16, states: usize, state: usize, action: usize) -> Followed
+    ensures { λ r. ⌜ r ≡ ownReply states state action cell ⌝ }
 {
     let next = cell as usize;
     if next < states {
@@ -44,15 +45,15 @@ pub fn advance(cell: u16, states: usize) -> Followed
     if next == 65535 {
         return Followed::NotNow;
     }
-    Followed::Refused(automaton::refusal(5, 1))
+    Followed::Refused(automaton::refusal_at(5, 1, Location::Cell { state, action }))
 }
 
 // One step of the monitor: checks 1 to 4, 11, 12, then 5 of its own cell.
 pub fn follow(a: Automaton, cells: &[u16], state: usize, action: usize) -> Followed
     ensures { λ r. ⌜ r ≡ followReply (table a (now (cells .entry))) state action ⌝ }
 {
-    match check_place(a, cells.len(), state, action) {
+    match check_position(a, cells.len(), state, action) {
         Checked::Refused(r) => Followed::Refused(r),
-        Checked::Accepted => advance(cells[state * 32 + action], a.states),
+        Checked::Accepted => advance(cells[state * 32 + action], a.states, state, action),
     }
 }

@@ -85,7 +85,7 @@ pub extern "C" fn harness_write(
     replies::written(writer::write(a, cells, name, names, out))
 }
 
-// What the bench program prints for two texts, in the lent buffer; returns where it ends.
+// What the program prints for two texts, in the lent buffer; returns where it ends.
 #[no_mangle]
 pub extern "C" fn harness_report<'a>(
     m: &'a [u8],

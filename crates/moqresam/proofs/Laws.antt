@@ -1,8 +1,10 @@
--- Why the C calls meet their contracts: a law for each reply.
-use mathlib.Core.Path.{_≡_, refl}
+-- Why the C calls meet their contracts.
+use mathlib.Core.Path.{_≡_, refl, _∙_}
 use mathlib.Core.Bool.{Bool, true, false}
 use Prim.Native.Nat.{ℕ}
 use Rattle.theory.specs.declared.Refusal.{Refusal}
+use Rattle.automaton.specs.declared.Status.{Status}
+use Rattle.automaton.specs.Statuses.{statusOf, accepted}
 use Rattle.follower.specs.declared.Followed.{Followed}
 use Rattle.follower.specs.declared.Followed.the-variants as followed
 use Rattle.compatibility.specs.declared.Compatibility.{Compatibility}
@@ -12,31 +14,34 @@ use Rattle.refinement.specs.declared.Refined.the-variants as refined
 use Rattle.moqresam.specs.declared.FitReply.{FitReply}
 use Rattle.moqresam.specs.declared.RefineReply.{RefineReply}
 use Rattle.moqresam.specs.declared.FollowReply.{FollowReply}
-use Rattle.moqresam.specs.Replies.{fitReply, refineReply, monitorReply, stateAfter}
+use Rattle.moqresam.specs.Replies.{fitWith, fitReply, refineWith, refineReply, followWith, monitorReply, stateAfter}
 
-pub fit-decided : (c : Compatibility) (v : Bool) (n : ℕ) → c ≡ compatibility.Decided v n
-    → record { number = 0; table = 0; compatible = v; rounds = n } ≡ fitReply c
-fit-decided c v n e = rw e
+-- ---- a law for each case of a reply: s is what it says of a refusal
 
-pub fit-refused : (c : Compatibility) (r : Refusal) → c ≡ compatibility.Refused r
-    → record { number = r .number; table = r .table; compatible = false; rounds = 0 } ≡ fitReply c
-fit-refused c r e = rw e
+pub fit-decided : (c : Compatibility) (v : Bool) (n : ℕ) (s : Status) (x : FitReply) → c ≡ compatibility.Decided v n → s ≡ accepted → x ≡ fitWith s v n
+    → x ≡ fitReply c
+fit-decided c v n s x e u f = f ∙ rw (e, u)
 
-pub refine-decided : (c : Refined) (v : Bool) → c ≡ refined.Decided v → record { number = 0; table = 0; refines = v } ≡ refineReply c
-refine-decided c v e = rw e
+pub fit-refused : (c : Compatibility) (r : Refusal) (s : Status) (x : FitReply) → c ≡ compatibility.Refused r → s ≡ statusOf r → x ≡ fitWith s false 0
+    → x ≡ fitReply c
+fit-refused c r s x e u f = f ∙ rw (e, u)
 
-pub refine-refused : (c : Refined) (r : Refusal) → c ≡ refined.Refused r → record { number = r .number; table = r .table; refines = false } ≡ refineReply c
-refine-refused c r e = rw e
+pub refine-decided : (c : Refined) (v : Bool) (s : Status) (x : RefineReply) → c ≡ refined.Decided v → s ≡ accepted → x ≡ refineWith s v → x ≡ refineReply c
+refine-decided c v s x e u f = f ∙ rw (e, u)
 
-pub follow-moved : (s : ℕ) (f : Followed) (t : ℕ) → f ≡ followed.Moved t → record { number = 0; table = 0; moved = true; state = t } ≡ monitorReply s f
-follow-moved s f t e = rw e
+pub refine-refused : (c : Refined) (r : Refusal) (s : Status) (x : RefineReply) → c ≡ refined.Refused r → s ≡ statusOf r → x ≡ refineWith s false
+    → x ≡ refineReply c
+refine-refused c r s x e u f = f ∙ rw (e, u)
 
-pub follow-not-now : (s : ℕ) (f : Followed) → f ≡ followed.NotNow → record { number = 0; table = 0; moved = false; state = s } ≡ monitorReply s f
-follow-not-now s f e = rw e
+module _ (at : ℕ) (c : Followed) (s : Status) (x : FollowReply) where
+  pub follow-moved : (to : ℕ) → c ≡ followed.Moved to → s ≡ accepted → x ≡ followWith s true to → x ≡ monitorReply at c
+  follow-moved to e u f = f ∙ rw (e, u)
 
-pub follow-turned-away : (s : ℕ) (f : Followed) (r : Refusal) → f ≡ followed.Refused r
-    → record { number = r .number; table = r .table; moved = false; state = s } ≡ monitorReply s f
-follow-turned-away s f r e = rw e
+  pub follow-not-now : c ≡ followed.NotNow → s ≡ accepted → x ≡ followWith s false at → x ≡ monitorReply at c
+  follow-not-now e u f = f ∙ rw (e, u)
+
+  pub follow-turned-away : (r : Refusal) → c ≡ followed.Refused r → s ≡ statusOf r → x ≡ followWith s false at → x ≡ monitorReply at c
+  follow-turned-away r e u f = f ∙ rw (e, u)
 
 -- The reply's state is the one that the record holds afterwards.
 pub reply-state : (s : ℕ) (f : Followed) → monitorReply s f .state ≡ stateAfter s f

@@ -1,6 +1,8 @@
 -- The replies of the C calls, from the library's: every field in every case.
 use Prim.Native.Nat.{ℕ}
-use mathlib.Core.Bool.{true, false}
+use mathlib.Core.Bool.{Bool, true, false}
+use Rattle.automaton.specs.declared.Status.{Status}
+use Rattle.automaton.specs.Statuses.{statusOf, accepted}
 use Rattle.follower.specs.declared.Followed.{Followed}
 use Rattle.follower.specs.declared.Followed.the-variants as followed
 use Rattle.compatibility.specs.declared.Compatibility.{Compatibility}
@@ -11,21 +13,53 @@ use Rattle.moqresam.specs.declared.FitReply.{FitReply}
 use Rattle.moqresam.specs.declared.RefineReply.{RefineReply}
 use Rattle.moqresam.specs.declared.FollowReply.{FollowReply}
 
--- Fit: not refused, number and table are 0; refused, the verdict is no and the rounds are 0.
-abbrev pub fitReply : Compatibility → FitReply
-fitReply (compatibility.Decided c n) = record { number = 0; table = 0; compatible = c; rounds = n }
-fitReply (compatibility.Refused r) = record { number = r .number; table = r .table; compatible = false; rounds = 0 }
+-- Fit: refused, the verdict is no and the rounds are 0.
+abbrev pub fitWith : Status → Bool → ℕ → FitReply
+fitWith s c n = record {
+  number = s .number;
+  table = s .table;
+  compatible = c;
+  rounds = n;
+  placed = s .placed;
+  «cell_state» = s .state;
+  «cell_signal» = s .action;
+}
 
--- Refinement: the same.
+abbrev pub fitReply : Compatibility → FitReply
+fitReply (compatibility.Decided c n) = fitWith accepted c n
+fitReply (compatibility.Refused r) = fitWith (statusOf r) false 0
+
+-- Refinement: refused, the verdict is no.
+abbrev pub refineWith : Status → Bool → RefineReply
+refineWith s v = record {
+  number = s .number;
+  table = s .table;
+  refines = v;
+  placed = s .placed;
+  «cell_state» = s .state;
+  «cell_signal» = s .action;
+}
+
 abbrev pub refineReply : Refined → RefineReply
-refineReply (refined.Decided v) = record { number = 0; table = 0; refines = v }
-refineReply (refined.Refused r) = record { number = r .number; table = r .table; refines = false }
+refineReply (refined.Decided v) = refineWith accepted v
+refineReply (refined.Refused r) = refineWith (statusOf r) false
 
 -- The follower at a state: moved, the new state; "not now" or refused, the state as it was given.
+abbrev pub followWith : Status → Bool → ℕ → FollowReply
+followWith s m to = record {
+  number = s .number;
+  table = s .table;
+  moved = m;
+  state = to;
+  placed = s .placed;
+  «cell_state» = s .state;
+  «cell_signal» = s .action;
+}
+
 abbrev pub monitorReply : ℕ → Followed → FollowReply
-monitorReply state (followed.Moved to) = record { number = 0; table = 0; moved = true; state = to }
-monitorReply state followed.NotNow = record { number = 0; table = 0; moved = false; state = state }
-monitorReply state (followed.Refused r) = record { number = r .number; table = r .table; moved = false; state = state }
+monitorReply state (followed.Moved to) = followWith accepted true to
+monitorReply state followed.NotNow = followWith accepted false state
+monitorReply state (followed.Refused r) = followWith (statusOf r) false state
 
 -- The state that the follower's record holds after a signal.
 abbrev pub stateAfter : ℕ → Followed → ℕ

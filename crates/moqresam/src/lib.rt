@@ -6,7 +6,8 @@ ghost use Rattle.follower.specs.Replies.{followReply};
 ghost use Rattle.compatibility.specs.Replies.{compatibilityReply, compatibilityFlags};
 ghost use Rattle.refinement.specs.Replies.{refinementReply, refinementMarks};
 ghost use Rattle.cells.specs.Bytes.{tableOfBytes};
-ghost use Rattle.moqresam.specs.Replies.{fitReply, refineReply, monitorReply, stateAfter};
+ghost use Rattle.moqresam.specs.Replies.{fitWith, refineWith, followWith, fitReply, refineReply, monitorReply, stateAfter};
+use automaton::Status;
 use compatibility::Compatibility;
 use follower::Followed;
 use refinement::Refined;
@@ -18,6 +19,9 @@ pub struct FitReply {
     pub table: u32,
     pub compatible: bool,
     pub rounds: usize,
+    pub placed: bool,
+    pub cell_state: usize,
+    pub cell_signal: usize,
 }
 
 #[repr(C)]
@@ -25,6 +29,9 @@ pub struct RefineReply {
     pub number: u32,
     pub table: u32,
     pub refines: bool,
+    pub placed: bool,
+    pub cell_state: usize,
+    pub cell_signal: usize,
 }
 
 #[repr(C)]
@@ -33,24 +40,62 @@ pub struct FollowReply {
     pub table: u32,
     pub moved: bool,
     pub state: usize,
+    pub placed: bool,
+    pub cell_state: usize,
+    pub cell_signal: usize,
+}
+
+fn fit_with(s: Status, compatible: bool, rounds: usize) -> FitReply
+    ensures { λ r. ⌜ r ≡ fitWith s compatible rounds ⌝ }
+{
+    FitReply {
+        number: s.number,
+        table: s.table,
+        compatible,
+        rounds,
+        placed: s.placed,
+        cell_state: s.state,
+        cell_signal: s.action,
+    }
+}
+
+fn refine_with(s: Status, refines: bool) -> RefineReply
+    ensures { λ r. ⌜ r ≡ refineWith s refines ⌝ }
+{
+    RefineReply {
+        number: s.number,
+        table: s.table,
+        refines,
+        placed: s.placed,
+        cell_state: s.state,
+        cell_signal: s.action,
+    }
+}
+
+fn follow_with(s: Status, moved: bool, state: usize) -> FollowReply
+    ensures { λ r. ⌜ r ≡ followWith s moved state ⌝ }
+{
+    FollowReply {
+        number: s.number,
+        table: s.table,
+        moved,
+        state,
+        placed: s.placed,
+        cell_state: s.state,
+        cell_signal: s.action,
+    }
 }
 
 fn fit_reply(c: Compatibility) -> FitReply
     ensures { λ r. ⌜ r ≡ fitReply c ⌝ }
 {
     match c {
-        Compatibility::Decided { compatible, rounds } => FitReply {
-            number: 0,
-            table: 0,
+        Compatibility::Decided { compatible, rounds } => fit_with(
+            automaton::unplaced(0, 0),
             compatible,
             rounds,
-        },
-        Compatibility::Refused(r) => FitReply {
-            number: r.number,
-            table: r.table,
-            compatible: false,
-            rounds: 0,
-        },
+        ),
+        Compatibility::Refused(r) => fit_with(automaton::status_of(r), false, 0),
     }
 }
 
@@ -58,16 +103,8 @@ fn refine_reply(c: Refined) -> RefineReply
     ensures { λ r. ⌜ r ≡ refineReply c ⌝ }
 {
     match c {
-        Refined::Decided(refines) => RefineReply {
-            number: 0,
-            table: 0,
-            refines,
-        },
-        Refined::Refused(r) => RefineReply {
-            number: r.number,
-            table: r.table,
-            refines: false,
-        },
+        Refined::Decided(refines) => refine_with(automaton::unplaced(0, 0), refines),
+        Refined::Refused(r) => refine_with(automaton::status_of(r), false),
     }
 }
 
@@ -75,24 +112,9 @@ fn follow_reply(state: usize, f: Followed) -> FollowReply
     ensures { λ r. ⌜ r ≡ monitorReply state f ⌝ }
 {
     match f {
-        Followed::Moved(to) => FollowReply {
-            number: 0,
-            table: 0,
-            moved: true,
-            state: to,
-        },
-        Followed::NotNow => FollowReply {
-            number: 0,
-            table: 0,
-            moved: false,
-            state,
-        },
-        Followed::Refused(r) => FollowReply {
-            number: r.number,
-            table: r.table,
-            moved: false,
-            state,
-        },
+        Followed::Moved(to) => follow_with(automaton::unplaced(0, 0), true, to),
+        Followed::NotNow => follow_with(automaton::unplaced(0, 0), false, state),
+        Followed::Refused(r) => follow_with(automaton::status_of(r), false, state),
     }
 }
 

@@ -9,7 +9,7 @@ use Rattle.theory.specs.declared.Automaton.{Automaton}
 use Rattle.theory.specs.Bounded.{any}
 use Rattle.theory.specs.Sets.{has}
 use Rattle.theory.specs.Table.{table}
-use Rattle.theory.specs.Checks.{Check}
+use Rattle.theory.specs.Checks.{Check, unplaced}
 use Rattle.text.specs.Fields.{same, nameOk}
 use Rattle.text.specs.Writing.{nameOf, misnamed, ambiguous}
 
@@ -32,9 +32,6 @@ pub record Named (set : ℕ) (names : List (List ℕ)) : Type 0 where
 
 -- ---- the checks: 16 of the table's name, 16 of a declared signal's name, 18 for equal signal names
 
-abbrev check : ℕ → Bool → Check
-check n b = record { number = n; table = 0; applies = b }
-
 unfoldable pub nameChecks : Automaton → List ℕ → List (List ℕ) → List Check
 nameChecks a name names =
-    check 16 (not (nameOk name)) ∷ check 16 (misnamed (table a []) name names) ∷ check 18 (ambiguous (table a []) name names) ∷ []
+    unplaced 16 0 (not (nameOk name)) ∷ unplaced 16 0 (misnamed (table a []) name names) ∷ unplaced 18 0 (ambiguous (table a []) name names) ∷ []

@@ -34,8 +34,8 @@ module _ (h : Automaton) (bytes : List ℕ) (s a n : ℕ) (counted : n ≡ cellC
     pub bytes-cell : s * 32 + a < 2 ^ 64
     bytes-cell = follow-cell h cells s a k place fine
 
-    pub bytes-own : (v : ℕ) (f : Followed) → v ≡ getD (unpacked bytes) (s * 32 + a) 65535 → f ≡ ownReply (h .states) v
+    pub bytes-own : (v : ℕ) (f : Followed) → v ≡ getD (unpacked bytes) (s * 32 + a) 65535 → f ≡ ownReply (h .states) s a v
         → f ≡ followReply (byteTable h bytes) s a
     bytes-own v f e u =
         follow-own h cells s a k place fine f
-        (u ∙ ap (ownReply (h .states)) (e ∙ sym (cells-at (h .states) bytes (s * 32 + a) (follow-at h cells s a k place fine))))
+        (u ∙ ap (ownReply (h .states) s a) (e ∙ sym (cells-at (h .states) bytes (s * 32 + a) (follow-at h cells s a k place fine))))

@@ -10,8 +10,13 @@ use theory::Checked;
 pub fn follow(a: Automaton, bytes: &[u8], state: usize, signal: usize) -> Followed
     ensures { λ r. ⌜ r ≡ followReply (byteTable a (now (bytes .entry))) state signal ⌝ }
 {
-    match follower::check_place(a, cells::count(a.states, bytes.len()), state, signal) {
+    match follower::check_position(a, cells::count(a.states, bytes.len()), state, signal) {
         Checked::Refused(r) => Followed::Refused(r),
-        Checked::Accepted => follower::advance(cells::at(bytes, state * 32 + signal), a.states),
+        Checked::Accepted => follower::advance(
+            cells::at(bytes, state * 32 + signal),
+            a.states,
+            state,
+            signal,
+        ),
     }
 }

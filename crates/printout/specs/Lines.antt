@@ -1,4 +1,4 @@
--- The lines that the bench program prints of a refusal and of a result (01, "The program and one full run").
+-- The lines that the program prints of a refusal and of a result (01, "The program and one full run").
 use mathlib.Core.Bool.{Bool, cond}
 use mathlib.Core.List.{List, [], _∷_}
 use Prim.Native.Nat.{ℕ}

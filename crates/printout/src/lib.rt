@@ -1,4 +1,4 @@
-// The lines that the bench program prints of a refusal and of a result (document 01, "The program and one full run"), put into a lent buffer.
+// The lines that the program prints of a refusal and of a result (document 01, "The program and one full run"), put into a lent buffer.
 // Each call returns the place after what it put.
 ghost use mathlib.Core.Path.{_≡_};
 ghost use Prim.Native.Nat.{_+_, _≤_};

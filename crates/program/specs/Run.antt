@@ -1,4 +1,4 @@
--- What the bench program prints for two files, and what it leaves in the lent buffers (01, "The program and one full run"). m and p are the bytes
+-- What the program prints for two files, and what it leaves in the lent buffers (01, "The program and one full run"). m and p are the bytes
 -- read of module and plan, cm and cp the cells of the two.
 use mathlib.Core.Path.{_≡_}
 use mathlib.Core.List.{List}

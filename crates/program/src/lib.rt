@@ -1,4 +1,4 @@
-// The bench program but for its reading and printing (document 01, "The program and one full run").
+// The program but for its reading and printing (document 01, "The program and one full run").
 ghost use Prim.Native.Nat.{_≤_};
 ghost use Rattle.program.specs.Run.{Ran};
 use files::File;

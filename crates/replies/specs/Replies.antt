@@ -4,8 +4,11 @@ use mathlib.Core.Bool.{Bool, true, false}
 use mathlib.Core.List.{List}
 use lib.ListN.{length}
 use Rattle.theory.specs.declared.Automaton.{Automaton}
+use Rattle.theory.specs.declared.Refusal.{Refusal}
 use Rattle.theory.specs.declared.Checked.{Checked}
 use Rattle.theory.specs.declared.Checked.the-variants as checks
+use Rattle.automaton.specs.declared.Status.{Status}
+use Rattle.automaton.specs.Statuses.{unplaced, statusOf, accepted}
 use Rattle.automaton.specs.declared.Mirrored.{Mirrored}
 use Rattle.automaton.specs.declared.Mirrored.the-variants as mirror
 use Rattle.follower.specs.declared.Followed.{Followed}
@@ -28,52 +31,18 @@ use Rattle.writer.specs.declared.Printed.{Printed}
 use Rattle.writer.specs.declared.Printed.the-variants as write
 use Rattle.replies.specs.declared.Reply.{Reply}
 
--- ---- the three shapes
+-- ---- the shapes
 
--- No table is given back.
-abbrev pub bareReply : ℕ → ℕ → ℕ → Bool → ℕ → Reply
-bareReply number place line verdict value = record {
-  number = number;
-  place = place;
+abbrev pub noTable : Automaton
+noTable = record { states = 0; initial = 0; inputs = 0; outputs = 0 }
+
+abbrev pub wholeReply : Status → ℕ → Bool → ℕ → Automaton → Automaton → Reply
+wholeReply s line verdict value a b = record {
+  number = s .number;
+  table = s .table;
   line = line;
   yes = verdict;
   value = value;
-  states = 0;
-  initial = 0;
-  inputs = 0;
-  outputs = 0;
-  «states_2» = 0;
-  «initial_2» = 0;
-  «inputs_2» = 0;
-  «outputs_2» = 0;
-}
-
--- One table is.
-abbrev pub headedReply : Bool → ℕ → Automaton → Reply
-headedReply verdict value a = record {
-  number = 0;
-  place = 0;
-  line = 0;
-  yes = verdict;
-  value = value;
-  states = a .states;
-  initial = a .initial;
-  inputs = a .inputs;
-  outputs = a .outputs;
-  «states_2» = 0;
-  «initial_2» = 0;
-  «inputs_2» = 0;
-  «outputs_2» = 0;
-}
-
--- Two are.
-abbrev pub bothReply : Automaton → Automaton → Reply
-bothReply a b = record {
-  number = 0;
-  place = 0;
-  line = 0;
-  yes = false;
-  value = 0;
   states = a .states;
   initial = a .initial;
   inputs = a .inputs;
@@ -82,46 +51,64 @@ bothReply a b = record {
   «initial_2» = b .initial;
   «inputs_2» = b .inputs;
   «outputs_2» = b .outputs;
+  placed = s .placed;
+  «cell_state» = s .state;
+  «cell_signal» = s .action;
 }
+
+-- No table is given back.
+abbrev pub bareReply : ℕ → ℕ → ℕ → Bool → ℕ → Reply
+bareReply number table line verdict value = wholeReply (unplaced number table) line verdict value noTable noTable
+
+abbrev pub refusedReply : Refusal → ℕ → Reply
+refusedReply r value = wholeReply (statusOf r) 0 false value noTable noTable
+
+-- One table is.
+abbrev pub headedReply : Bool → ℕ → Automaton → Reply
+headedReply verdict value a = wholeReply accepted 0 verdict value a noTable
+
+-- Two are.
+abbrev pub bothReply : Automaton → Automaton → Reply
+bothReply a b = wholeReply accepted 0 false 0 a b
 
 -- ---- one table
 
 abbrev pub judged : Checked → Reply
 judged checks.Accepted = bareReply 0 0 0 false 0
-judged (checks.Refused r) = bareReply (r .number) (r .table) 0 false 0
+judged (checks.Refused r) = refusedReply r 0
 
 abbrev pub mirrored : Mirrored → Reply
 mirrored (mirror.Mirror h) = headedReply false 0 h
-mirrored (mirror.Refused r) = bareReply (r .number) (r .table) 0 false 0
+mirrored (mirror.Refused r) = refusedReply r 0
 
 -- Not moved or refused, the state is the one that was given.
 abbrev pub followed : ℕ → Followed → Reply
 followed state (follow.Moved to) = bareReply 0 0 0 true to
 followed state follow.NotNow = bareReply 0 0 0 false state
-followed state (follow.Refused r) = bareReply (r .number) (r .table) 0 false state
+followed state (follow.Refused r) = refusedReply r state
 
 -- ---- two tables
 
 abbrev pub multiplied : Built → Reply
 multiplied (product.Product h) = headedReply false 0 h
-multiplied (product.Refused r) = bareReply (r .number) (r .table) 0 false 0
+multiplied (product.Refused r) = refusedReply r 0
 
 abbrev pub fitted : Compatibility → Reply
 fitted (fit.Decided verdict rounds) = bareReply 0 0 0 verdict rounds
-fitted (fit.Refused r) = bareReply (r .number) (r .table) 0 false 0
+fitted (fit.Refused r) = refusedReply r 0
 
 abbrev pub composed : Composition → Reply
 composed (compose.Decided verdict h rounds) = headedReply verdict rounds h
-composed (compose.Refused r) = bareReply (r .number) (r .table) 0 false 0
+composed (compose.Refused r) = refusedReply r 0
 
 abbrev pub refined : Refined → Reply
 refined (refine.Decided verdict) = bareReply 0 0 0 verdict 0
-refined (refine.Refused r) = bareReply (r .number) (r .table) 0 false 0
+refined (refine.Refused r) = refusedReply r 0
 
 abbrev pub synthesized : Synthesis → Reply
 synthesized (synthesize.Controller h rounds) = headedReply true rounds h
 synthesized (synthesize.NoController h rounds) = headedReply false rounds h
-synthesized (synthesize.Refused r) = bareReply (r .number) (r .table) 0 false 0
+synthesized (synthesize.Refused r) = refusedReply r 0
 
 -- ---- table text
 
@@ -140,4 +127,4 @@ named number name = bareReply number 0 0 false (length name)
 
 abbrev pub written : Printed → Reply
 written (write.Length n) = bareReply 0 0 0 false n
-written (write.Refused r) = bareReply (r .number) (r .table) 0 false 0
+written (write.Refused r) = refusedReply r 0

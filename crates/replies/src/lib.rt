@@ -1,7 +1,8 @@
 // The library's replies as one record, which the C ABI can hand back: for tests and benchmarks.
 ghost use mathlib.Core.Path.{_≡_};
-ghost use Rattle.replies.specs.Replies.{bareReply, headedReply, bothReply, judged as judgedReply, mirrored as mirroredReply, followed as followedReply, multiplied as multipliedReply, fitted as fittedReply, composed as composedReply, refined as refinedReply, synthesized as synthesizedReply, aloneRead, togetherRead, written as writtenReply};
+ghost use Rattle.replies.specs.Replies.{noTable, wholeReply, bareReply, refusedReply, headedReply, bothReply, judged as judgedReply, mirrored as mirroredReply, followed as followedReply, multiplied as multipliedReply, fitted as fittedReply, composed as composedReply, refined as refinedReply, synthesized as synthesizedReply, aloneRead, togetherRead, written as writtenReply};
 use automaton::Mirrored;
+use automaton::Status;
 use compatibility::Compatibility;
 use composition::Built;
 use composition::Composition;
@@ -12,6 +13,7 @@ use refinement::Refined;
 use synthesis::Synthesis;
 use theory::Automaton;
 use theory::Checked;
+use theory::Refusal;
 use writer::Printed;
 
 // What any call gives. A field that a call does not set is 0.
@@ -19,7 +21,7 @@ use writer::Printed;
 pub struct Reply {
     // Document 01's number, 0 where nothing is refused; the table or text at fault; the line, for readings.
     pub number: u32,
-    pub place: u32,
+    pub table: u32,
     pub line: usize,
     // The verdict; whether the follower moved.
     pub yes: bool,
@@ -35,60 +37,34 @@ pub struct Reply {
     pub initial_2: usize,
     pub inputs_2: u32,
     pub outputs_2: u32,
+    // Whether a cell of the table is at fault, and which.
+    pub placed: bool,
+    pub cell_state: usize,
+    pub cell_signal: usize,
 }
 
-// No table is given back.
-pub fn bare(number: u32, place: u32, line: usize, verdict: bool, value: usize) -> Reply
-    ensures { λ r. ⌜ r ≡ bareReply number place line verdict value ⌝ }
+// The numbers of no table.
+fn none() -> Automaton
+    ensures { λ r. ⌜ r ≡ noTable ⌝ }
 {
-    Reply {
-        number,
-        place,
-        line,
-        yes: verdict,
-        value,
+    Automaton {
         states: 0,
         initial: 0,
         inputs: 0,
         outputs: 0,
-        states_2: 0,
-        initial_2: 0,
-        inputs_2: 0,
-        outputs_2: 0,
     }
 }
 
-// One table is.
-fn headed(verdict: bool, value: usize, a: Automaton) -> Reply
-    ensures { λ r. ⌜ r ≡ headedReply verdict value a ⌝ }
+// Every field of the record.
+fn whole(s: Status, line: usize, verdict: bool, value: usize, a: Automaton, b: Automaton) -> Reply
+    ensures { λ r. ⌜ r ≡ wholeReply s line verdict value a b ⌝ }
 {
     Reply {
-        number: 0,
-        place: 0,
-        line: 0,
+        number: s.number,
+        table: s.table,
+        line,
         yes: verdict,
         value,
-        states: a.states,
-        initial: a.initial,
-        inputs: a.inputs,
-        outputs: a.outputs,
-        states_2: 0,
-        initial_2: 0,
-        inputs_2: 0,
-        outputs_2: 0,
-    }
-}
-
-// Two are.
-fn both(a: Automaton, b: Automaton) -> Reply
-    ensures { λ r. ⌜ r ≡ bothReply a b ⌝ }
-{
-    Reply {
-        number: 0,
-        place: 0,
-        line: 0,
-        yes: false,
-        value: 0,
         states: a.states,
         initial: a.initial,
         inputs: a.inputs,
@@ -97,7 +73,45 @@ fn both(a: Automaton, b: Automaton) -> Reply
         initial_2: b.initial,
         inputs_2: b.inputs,
         outputs_2: b.outputs,
+        placed: s.placed,
+        cell_state: s.state,
+        cell_signal: s.action,
     }
+}
+
+// No table is given back, and no cell is at fault.
+pub fn bare(number: u32, table: u32, line: usize, verdict: bool, value: usize) -> Reply
+    ensures { λ r. ⌜ r ≡ bareReply number table line verdict value ⌝ }
+{
+    whole(
+        automaton::unplaced(number, table),
+        line,
+        verdict,
+        value,
+        none(),
+        none(),
+    )
+}
+
+// A call on tables is refused; `value` is the follower's state.
+fn refused(r: Refusal, value: usize) -> Reply
+    ensures { λ x. ⌜ x ≡ refusedReply r value ⌝ }
+{
+    whole(automaton::status_of(r), 0, false, value, none(), none())
+}
+
+// One table is given back.
+fn headed(verdict: bool, value: usize, a: Automaton) -> Reply
+    ensures { λ r. ⌜ r ≡ headedReply verdict value a ⌝ }
+{
+    whole(automaton::unplaced(0, 0), 0, verdict, value, a, none())
+}
+
+// Two tables are.
+fn both(a: Automaton, b: Automaton) -> Reply
+    ensures { λ r. ⌜ r ≡ bothReply a b ⌝ }
+{
+    whole(automaton::unplaced(0, 0), 0, false, 0, a, b)
 }
 
 pub fn judged(c: Checked) -> Reply
@@ -105,7 +119,7 @@ pub fn judged(c: Checked) -> Reply
 {
     match c {
         Checked::Accepted => bare(0, 0, 0, false, 0),
-        Checked::Refused(r) => bare(r.number, r.table, 0, false, 0),
+        Checked::Refused(r) => refused(r, 0),
     }
 }
 
@@ -114,7 +128,7 @@ pub fn mirrored(c: Mirrored) -> Reply
 {
     match c {
         Mirrored::Mirror(h) => headed(false, 0, h),
-        Mirrored::Refused(r) => bare(r.number, r.table, 0, false, 0),
+        Mirrored::Refused(r) => refused(r, 0),
     }
 }
 
@@ -124,7 +138,7 @@ pub fn followed(state: usize, c: Followed) -> Reply
     match c {
         Followed::Moved(to) => bare(0, 0, 0, true, to),
         Followed::NotNow => bare(0, 0, 0, false, state),
-        Followed::Refused(r) => bare(r.number, r.table, 0, false, state),
+        Followed::Refused(r) => refused(r, state),
     }
 }
 
@@ -133,7 +147,7 @@ pub fn multiplied(c: Built) -> Reply
 {
     match c {
         Built::Product(h) => headed(false, 0, h),
-        Built::Refused(r) => bare(r.number, r.table, 0, false, 0),
+        Built::Refused(r) => refused(r, 0),
     }
 }
 
@@ -142,7 +156,7 @@ pub fn fitted(c: Compatibility) -> Reply
 {
     match c {
         Compatibility::Decided { compatible, rounds } => bare(0, 0, 0, compatible, rounds),
-        Compatibility::Refused(r) => bare(r.number, r.table, 0, false, 0),
+        Compatibility::Refused(r) => refused(r, 0),
     }
 }
 
@@ -155,7 +169,7 @@ pub fn composed(c: Composition) -> Reply
             header,
             rounds,
         } => headed(compatible, rounds, header),
-        Composition::Refused(r) => bare(r.number, r.table, 0, false, 0),
+        Composition::Refused(r) => refused(r, 0),
     }
 }
 
@@ -164,7 +178,7 @@ pub fn refined(c: Refined) -> Reply
 {
     match c {
         Refined::Decided(refines) => bare(0, 0, 0, refines, 0),
-        Refined::Refused(r) => bare(r.number, r.table, 0, false, 0),
+        Refined::Refused(r) => refused(r, 0),
     }
 }
 
@@ -174,7 +188,7 @@ pub fn synthesized(c: Synthesis) -> Reply
     match c {
         Synthesis::Controller { header, rounds } => headed(true, rounds, header),
         Synthesis::NoController { header, rounds } => headed(false, rounds, header),
-        Synthesis::Refused(r) => bare(r.number, r.table, 0, false, 0),
+        Synthesis::Refused(r) => refused(r, 0),
     }
 }
 
@@ -204,6 +218,6 @@ pub fn written(c: Printed) -> Reply
 {
     match c {
         Printed::Length(n) => bare(0, 0, 0, false, n),
-        Printed::Refused(r) => bare(r.number, r.table, 0, false, 0),
+        Printed::Refused(r) => refused(r, 0),
     }
 }

@@ -1,4 +1,4 @@
--- What the bench program prints for two texts, and what is left in the buffers that it lends (01, "The program and one full run"). m is the
+-- What the program prints for two texts, and what is left in the buffers that it lends (01, "The program and one full run"). m is the
 -- module's text, p the plan's.
 use mathlib.Core.Path.{_≡_}
 use mathlib.Core.Bool.{cond}

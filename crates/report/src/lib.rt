@@ -1,4 +1,4 @@
-// All that the bench program prints for two texts (document 01, "The program and one full run"), made in a lent buffer.
+// All that the program prints for two texts (document 01, "The program and one full run"), made in a lent buffer.
 ghost use mathlib.Core.Path.{_≡_};
 ghost use mathlib.Core.Bool.{true, cond};
 ghost use Prim.Native.Nat.{_*_, _≤_};

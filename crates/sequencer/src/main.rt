@@ -1,4 +1,4 @@
-// The bench program (document 01, "The program and one full run"): reads module.tab and plan.tab in the current folder and prints the report
+// The program (document 01, "The program and one full run"): reads module.tab and plan.tab in the current folder and prints the report
 // of the two. Which line or lines that is, also of a file that cannot be read, is the library's; here files are read, room is lent and the
 // report is written out.
 ghost use mathlib.Core.Path.{_≡_};

@@ -8,7 +8,7 @@ use lib.ListN.{length, getD, drop}
 use Rattle.theory.specs.Bounded.{any, digit}
 use Rattle.theory.specs.Closure.{isSome}
 use Rattle.theory.specs.Table.{Table, automaton, cellAt, member}
-use Rattle.theory.specs.Checks.{Check, first, unlessRefused, declared, tableChecks}
+use Rattle.theory.specs.Checks.{Check, unplaced, first, unlessRefused, declared, tableChecks}
 use Rattle.text.specs.declared.Role.{Role}
 use Rattle.text.specs.declared.Role.the-variants.{Input, Output}
 use Rattle.text.specs.Fields.{same, nameOk}
@@ -98,9 +98,6 @@ ascending t s = those (hasStep t s) 0 32
 -- ---- the writer's checks: 1 to 6, 16 (table name, then signals), 18 for equal signal names, 23
 
 module _ (t : Table) (name : List ℕ) (names : List (List ℕ)) where
-  abbrev check : ℕ → Bool → Check
-  check n b = record { number = n; table = 0; applies = b }
-
   -- A declared signal's name breaks the name rule.
   abbrev pub misnamed : Bool
   misnamed = any 32 (λ a. declared t a && not (nameOk (nameOf names a)))
@@ -118,7 +115,7 @@ module _ (t : Table) (name : List ℕ) (names : List (List ℕ)) where
 
   unfoldable pub writerChecks : ℕ → List Check
   writerChecks room =
-      tableChecks 1 t ++ (check 16 (not (nameOk name)) ∷ check 16 misnamed ∷ check 18 ambiguous ∷ check 23 (tooLong room) ∷ [])
+      tableChecks 1 t ++ (unplaced 16 0 (not (nameOk name)) ∷ unplaced 16 0 misnamed ∷ unplaced 18 0 ambiguous ∷ unplaced 23 0 (tooLong room) ∷ [])
 
   -- The lent bytes after the call, with the steps in the given order: the text, then the bytes as they were; all of them after a refusal.
   unfoldable pub bytesWith : (ℕ → List ℕ) → List ℕ → List ℕ

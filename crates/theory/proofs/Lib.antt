@@ -1,5 +1,6 @@
 pub mod Tests
 pub mod Bounded
+pub mod Lowest
 pub mod Filled
 pub mod Steps
 pub mod Environment
@@ -14,6 +15,7 @@ pub mod Demand
 pub mod Sets
 pub mod Table
 pub mod Checks
+pub mod Locations
 pub mod Verdicts
 pub mod Controller
 pub mod Commutative

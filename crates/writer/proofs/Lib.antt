@@ -1,3 +1,4 @@
 pub mod Lines
 pub mod Counted
 pub mod Replies
+pub mod Meaning

@@ -8,6 +8,7 @@ use lib.Bits.{bitOr}
 use lib.Dec.{ltb}
 use lib.ListN.{length}
 use borrow.Author.Tests.{lt-ltb, le-ltb}
+use Rattle.theory.specs.declared.Location.the-variants.{Nowhere}
 use Rattle.theory.specs.declared.Refusal.{Refusal}
 use Rattle.theory.specs.declared.Checked.{Checked}
 use Rattle.theory.specs.declared.Checked.the-variants.{Accepted, Refused}
@@ -45,7 +46,7 @@ module _ (t : Table) (name : List ℕ) (names : List (List ℕ)) where
     -- The call is refused by 23, and the lent bytes are as they were.
     abbrev Refuses : Type 0
     Refuses =
-        (r : Refusal) → r ≡ record { number = 23; table = 0 }
+        (r : Refusal) → r ≡ record { number = 23; table = 0; location = Nowhere }
         → (reply.Refused r ≡ printReply t name names (length out)) × (out ≡ printBytes t name names out)
 
     long : ltb (length out) (textLength t name names) || ltb 65536 (textLength t name names) ≡ true → Refuses

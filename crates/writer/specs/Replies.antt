@@ -3,7 +3,7 @@ use mathlib.Core.List.{List, [], _∷_, _++_}
 use Prim.Native.Nat.{ℕ}
 use lib.ListN.{length, drop}
 use Rattle.theory.specs.Table.{Table}
-use Rattle.theory.specs.Checks.{Check, first, unlessRefused, tableChecks}
+use Rattle.theory.specs.Checks.{Check, unplaced, first, unlessRefused, tableChecks}
 use Rattle.text.specs.Writing.{textWith, ascending, textLength, tooLong, writerChecks}
 use Rattle.names.specs.Names.{nameChecks}
 use Rattle.writer.specs.declared.Printed.{Printed}
@@ -18,7 +18,7 @@ unfoldable pub checksBefore : Table → List ℕ → List (List ℕ) → List Ch
 checksBefore t name names = tableChecks 1 t ++ nameChecks (t .header) name names
 
 unfoldable pub lengthCheck : Table → List ℕ → List (List ℕ) → ℕ → List Check
-lengthCheck t name names room = record { number = 23; table = 0; applies = tooLong t name names room } ∷ []
+lengthCheck t name names room = unplaced 23 0 (tooLong t name names room) ∷ []
 
 unfoldable pub printReply : Table → List ℕ → List (List ℕ) → ℕ → Printed
 printReply t name names room = unlessRefused (first (lengthCheck t name names room)) reply.Refused (reply.Length (textLength t name names))

@@ -27,8 +27,8 @@ find-requires c κs = search needs
 enum-known-check : tie.Need-enum-known-check
 enum-known-check c = search needs
 
-refuse-requires : tie.Need-refuse-requires
-refuse-requires c κs = search needs
+refuse-cell-requires : tie.Need-refuse-cell-requires
+refuse-cell-requires c κs = search needs
 
 enum-told-3 : tie.Need-enum-told-3
 enum-told-3 c = search needs
@@ -51,7 +51,7 @@ check-spec =
     declared-requires
     find-requires
     enum-known-check
-    refuse-requires
+    refuse-cell-requires
     enum-told-3
     returns-2
     returns-3)

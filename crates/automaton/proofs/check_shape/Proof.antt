@@ -3,20 +3,20 @@ use borrow.Author.Needs.{needs}
 use Rattle.automaton.proofs.check_shape.Statement.{statement}
 use Rattle.automaton.proofs.check_shape.Tie as tie
 
-refuse-requires : tie.Need-refuse-requires
-refuse-requires c κs = search needs
+refuse-table-requires : tie.Need-refuse-table-requires
+refuse-table-requires c κs = search needs
 
 returns : tie.Need-returns
 returns c = search (shape-1, needs)
 
-refuse-requires-2 : tie.Need-refuse-requires-2
-refuse-requires-2 c κs = search needs
+refuse-table-requires-2 : tie.Need-refuse-table-requires-2
+refuse-table-requires-2 c κs = search needs
 
 returns-2 : tie.Need-returns-2
 returns-2 c = search (shape-1-many, needs)
 
-refuse-requires-3 : tie.Need-refuse-requires-3
-refuse-requires-3 c κs = search needs
+refuse-table-requires-3 : tie.Need-refuse-table-requires-3
+refuse-table-requires-3 c κs = search needs
 
 returns-3 : tie.Need-returns-3
 returns-3 c = search (shape-2, needs)
@@ -24,8 +24,8 @@ returns-3 c = search (shape-2, needs)
 overlap-requires : tie.Need-overlap-requires
 overlap-requires c κs = search needs
 
-refuse-requires-4 : tie.Need-refuse-requires-4
-refuse-requires-4 c κs = search needs
+refuse-table-requires-4 : tie.Need-refuse-table-requires-4
+refuse-table-requires-4 c κs = search needs
 
 returns-4 : tie.Need-returns-4
 returns-4 c = search (shape-3, needs)
@@ -33,8 +33,8 @@ returns-4 c = search (shape-3, needs)
 mul-if5 : tie.Need-mul-if5
 mul-if5 c = search needs
 
-refuse-requires-5 : tie.Need-refuse-requires-5
-refuse-requires-5 c κs = search needs
+refuse-table-requires-5 : tie.Need-refuse-table-requires-5
+refuse-table-requires-5 c κs = search needs
 
 returns-5 : tie.Need-returns-5
 returns-5 c = search (shape-4, needs)
@@ -46,16 +46,16 @@ pub check-shape-spec : {M : Type 1} → statement M
 check-shape-spec =
     tie.close
     (tie.spec
-    refuse-requires
+    refuse-table-requires
     returns
-    refuse-requires-2
+    refuse-table-requires-2
     returns-2
-    refuse-requires-3
+    refuse-table-requires-3
     returns-3
     overlap-requires
-    refuse-requires-4
+    refuse-table-requires-4
     returns-4
     mul-if5
-    refuse-requires-5
+    refuse-table-requires-5
     returns-5
     returns-6)

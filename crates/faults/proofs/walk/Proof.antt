@@ -4,8 +4,8 @@ use Prim.Native.Nat.{_+_, _*_, _/_, _-_, _≤_, min}
 use native.Mathlib.Omega.{arith}
 use lib.ListN.{length}
 use Rattle.theory.specs.Bounded.{any}
+use Rattle.theory.proofs.Lowest.{reach}
 use Rattle.faults.specs.Cells.{faultAt, SoundBefore}
-use Rattle.faults.proofs.Least.{reach}
 use Rattle.faults.proofs.Rows.{sound-same, walk-on, walk-found, walk-end}
 use Rattle.faults.proofs.Sound.{limits-many, pass-row, pass-sound}
 use borrow.Author.Needs.{needs}

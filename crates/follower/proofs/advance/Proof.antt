@@ -9,11 +9,11 @@ returns c = search (own-moved, needs)
 returns-2 : tie.Need-returns-2
 returns-2 c = search (own-none, needs)
 
-refusal-requires : tie.Need-refusal-requires
-refusal-requires c κs = search needs
+refusal-at-requires : tie.Need-refusal-at-requires
+refusal-at-requires c κs = search needs
 
 returns-3 : tie.Need-returns-3
 returns-3 c = search (own-stray, needs)
 
 pub advance-spec : {M : Type 1} → statement M
-advance-spec = tie.close (tie.spec returns returns-2 refusal-requires returns-3)
+advance-spec = tie.close (tie.spec returns returns-2 refusal-at-requires returns-3)

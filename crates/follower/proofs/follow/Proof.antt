@@ -3,8 +3,8 @@ use borrow.Author.Needs.{needs}
 use Rattle.follower.proofs.follow.Statement.{statement}
 use Rattle.follower.proofs.follow.Tie as tie
 
-check-place-requires : tie.Need-check-place-requires
-check-place-requires c κs = search needs
+check-position-requires : tie.Need-check-position-requires
+check-position-requires c κs = search needs
 
 enum-known-r : tie.Need-enum-known-r
 enum-known-r c = search needs
@@ -37,7 +37,7 @@ pub follow-spec : {M : Type 1} → statement M
 follow-spec =
     tie.close
     (tie.spec
-    check-place-requires
+    check-position-requires
     enum-known-r
     enum-told
     mul-advance

@@ -6,8 +6,8 @@ use Rattle.packed.proofs.follow.Tie as tie
 count-requires : tie.Need-count-requires
 count-requires c κs = search needs
 
-check-place-requires : tie.Need-check-place-requires
-check-place-requires c κs = search needs
+check-position-requires : tie.Need-check-position-requires
+check-position-requires c κs = search needs
 
 enum-known-r : tie.Need-enum-known-r
 enum-known-r c = search needs
@@ -38,7 +38,7 @@ follow-spec =
     tie.close
     (tie.spec
     count-requires
-    check-place-requires
+    check-position-requires
     enum-known-r
     enum-told
     mul-at

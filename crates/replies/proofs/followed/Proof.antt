@@ -1,5 +1,5 @@
 use Rattle.replies.specs.Replies.{followed}
-use Rattle.replies.proofs.Laws.{told-at}
+use Rattle.theory.proofs.Checks.{told-at}
 use borrow.Author.Needs.{needs}
 use Rattle.replies.proofs.followed.Statement.{statement}
 use Rattle.replies.proofs.followed.Tie as tie
@@ -19,8 +19,8 @@ bare-requires-2 c κs = search needs
 enum-known-c-2 : tie.Need-enum-known-c-2
 enum-known-c-2 c = search needs
 
-bare-requires-3 : tie.Need-bare-requires-3
-bare-requires-3 c κs = search needs
+refused-requires : tie.Need-refused-requires
+refused-requires c κs = search needs
 
 returns : tie.Need-returns
 returns c = search (told-at followed, needs)
@@ -40,7 +40,7 @@ followed-spec =
     enum-told
     bare-requires-2
     enum-known-c-2
-    bare-requires-3
+    refused-requires
     returns
     returns-2
     returns-3)

@@ -1,5 +1,5 @@
 use Rattle.replies.specs.Replies.{judged}
-use Rattle.replies.proofs.Laws.{told}
+use Rattle.theory.proofs.Checks.{told}
 use borrow.Author.Needs.{needs}
 use Rattle.replies.proofs.judged.Statement.{statement}
 use Rattle.replies.proofs.judged.Tie as tie
@@ -13,8 +13,8 @@ bare-requires c κs = search needs
 enum-known-c : tie.Need-enum-known-c
 enum-known-c c = search needs
 
-bare-requires-2 : tie.Need-bare-requires-2
-bare-requires-2 c κs = search needs
+refused-requires : tie.Need-refused-requires
+refused-requires c κs = search needs
 
 returns : tie.Need-returns
 returns c = search (told judged, needs)
@@ -24,4 +24,4 @@ returns-2 c = search (told judged, needs)
 
 pub judged-spec : {M : Type 1} → statement M
 judged-spec =
-    tie.close (tie.spec enum-told bare-requires enum-known-c bare-requires-2 returns returns-2)
+    tie.close (tie.spec enum-told bare-requires enum-known-c refused-requires returns returns-2)

@@ -1,5 +1,5 @@
 use Rattle.replies.specs.Replies.{synthesized}
-use Rattle.replies.proofs.Laws.{told}
+use Rattle.theory.proofs.Checks.{told}
 use borrow.Author.Needs.{needs}
 use Rattle.replies.proofs.synthesized.Statement.{statement}
 use Rattle.replies.proofs.synthesized.Tie as tie
@@ -19,8 +19,8 @@ headed-requires-2 c κs = search needs
 enum-known-c-3 : tie.Need-enum-known-c-3
 enum-known-c-3 c = search needs
 
-bare-requires : tie.Need-bare-requires
-bare-requires c κs = search needs
+refused-requires : tie.Need-refused-requires
+refused-requires c κs = search needs
 
 returns : tie.Need-returns
 returns c = search (told synthesized, needs)
@@ -40,7 +40,7 @@ synthesized-spec =
     enum-known-c-2
     headed-requires-2
     enum-known-c-3
-    bare-requires
+    refused-requires
     returns
     returns-2
     returns-3)

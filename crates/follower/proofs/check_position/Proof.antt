@@ -1,7 +1,7 @@
 use Rattle.follower.proofs.Checks.{place-shape, place-11, place-12, place-ok}
 use borrow.Author.Needs.{needs}
-use Rattle.follower.proofs.check_place.Statement.{statement}
-use Rattle.follower.proofs.check_place.Tie as tie
+use Rattle.follower.proofs.check_position.Statement.{statement}
+use Rattle.follower.proofs.check_position.Tie as tie
 
 check-shape-requires : tie.Need-check-shape-requires
 check-shape-requires c κs = search needs
@@ -36,8 +36,8 @@ returns-3 c = search (place-12, needs)
 returns-4 : tie.Need-returns-4
 returns-4 c = search (place-ok, needs)
 
-pub check-place-spec : {M : Type 1} → statement M
-check-place-spec =
+pub check-position-spec : {M : Type 1} → statement M
+check-position-spec =
     tie.close
     (tie.spec
     check-shape-requires

@@ -1,4 +1,4 @@
--- The least number that passes a test, and how a walk comes to it.
+-- The lowest number below a bound that passes a test, and how a search comes to it.
 use mathlib.Core.Path.{_≡_, refl}
 use mathlib.Core.Logic.{inl, inr}
 use mathlib.Core.Bool.{Bool, true, false, _||_, cond}
@@ -6,12 +6,11 @@ use Prim.Native.Nat.{ℕ, zero, suc, _+_, _<_}
 use native.Mathlib.Numerals.{add-one}
 use native.Mathlib.Nat.{not-suc-le-zero, le-of-suc-le-suc, eq-or-lt-of-le}
 use native.Mathlib.Omega.{arith}
-use lib.Dec.{ltb}
+use lib.Dec.{T, ltb}
 use borrow.Author.Tests.{lt-ltb, le-ltb, ltb-true}
-use Rattle.theory.specs.Bounded.{any}
+use Rattle.theory.specs.Bounded.{any, lowest}
 use Rattle.theory.proofs.Tests.{same-test}
 use Rattle.theory.proofs.Bounded.{at-any}
-use Rattle.faults.specs.Cells.{least}
 
 or-none : (b c : Bool) → (b || c) ≡ false → (b ≡ false) × (c ≡ false)
 or-none true c e = (e, cc)
@@ -22,12 +21,18 @@ one-more n m true c e = lt-ltb m (suc n) (omega (arith, ltb-true m n e))
 one-more n m false true e = lt-ltb n (suc n) (omega arith)
 one-more n m false false e = le-ltb (suc n) (suc n) (omega arith)
 
+-- k is below n and passes, and no lower number does.
+pub record Lowest (n : ℕ) (f : ℕ → Bool) (k : ℕ) : Type 0 where
+  pub below : k < n
+  pub passes : T (f k)
+  pub before : (j : ℕ) → j < k → ¬ T (f j)
+
 module _ (f : ℕ → Bool) where
-  -- Some number passes exactly if the least one found is below the bound.
-  pub least-any : (n : ℕ) → ltb (least n f) n ≡ any n f
-  unfolding least any
-  least-any zero = refl
-  least-any (suc n) = one-more n (least n f) (any n f) (f n) (least-any n)
+  -- Some number passes exactly if the lowest one found is below the bound.
+  pub lowest-any : (n : ℕ) → ltb (lowest n f) n ≡ any n f
+  unfolding lowest any
+  lowest-any zero = refl
+  lowest-any (suc n) = one-more n (lowest n f) (any n f) (f n) (lowest-any n)
 
   -- None below n passes, said of each.
   pub none-at : (n : ℕ) → any n f ≡ false → (k : ℕ) → k < n → f k ≡ false
@@ -48,8 +53,8 @@ module _ (f : ℕ → Bool) where
   reach k j e h = rw (← h) e
 
   -- None below k passes, and k does.
-  pub found : (n k : ℕ) → k < n → any k f ≡ false → f k ≡ true → k ≡ least n f
-  unfolding least
+  pub found : (n k : ℕ) → k < n → any k f ≡ false → f k ≡ true → k ≡ lowest n f
+  unfolding lowest
   found zero k l e g = absurd (not-suc-le-zero l)
   found (suc n) k l e g = elim (eq-or-lt-of-le (le-of-suc-le-suc l)) [
     | inl q ↦ rw (← q, e, g)
@@ -59,7 +64,19 @@ module _ (f : ℕ → Bool) where
   ]
 
   -- None passes.
-  pub passed : (n : ℕ) → any n f ≡ false → n ≡ least n f
-  unfolding least any
+  pub passed : (n : ℕ) → any n f ≡ false → n ≡ lowest n f
+  unfolding lowest any
   passed zero e = refl
   passed (suc n) e = let (p, q) = or-none (any n f) (f n) e in rw (p, q)
+
+  one-more-is : (n m : ℕ) (b : Bool) → any n f ≡ b → (T b → Lowest n f m) → T (b || f n) → Lowest (suc n) f (cond b m (cond (f n) n (suc n)))
+  one-more-is n m true e w t = record { below = omega (arith, w tt .below); passes = w tt .passes; before = w tt .before }
+  one-more-is n m false e w t =
+      rw (same-test {a = f n} {b = true} (λ u. tt) (λ u. t))
+      (record { below = omega arith; passes = t; before = λ j l u. rw (none-at n e j l) at u })
+
+  -- Where some number passes, the one found is the lowest.
+  pub lowest-is : (n : ℕ) → T (any n f) → Lowest n f (lowest n f)
+  unfolding lowest any
+  lowest-is zero t = absurd t
+  lowest-is (suc n) t = one-more-is n (lowest n f) (any n f) refl (lowest-is n) t
