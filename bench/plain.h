@@ -25,7 +25,7 @@ struct part {
 /* The reply of every call, field for field that of the archive. */
 struct reply {
     uint32_t number;
-    uint32_t place;
+    uint32_t table;
     size_t line;
     bool yes;
     size_t value;

@@ -175,7 +175,7 @@ pub fn c_fit(a: &Table, a_bytes: &[u8], b: &Table, b_bytes: &[u8], flags: &mut [
             a.states, a.initial, a.inputs, a.outputs, start(a_bytes), a_bytes.len(),
             b.states, b.initial, b.inputs, b.outputs, start(b_bytes), b_bytes.len(), flags.as_mut_ptr(), flags.len())
     };
-    Reply { number: reply.number, place: reply.table, yes: reply.compatible, value: reply.rounds, ..Reply::default() }
+    Reply { number: reply.number, table: reply.table, yes: reply.compatible, value: reply.rounds, ..Reply::default() }
 }
 
 pub fn c_refine(x: &Table, x_bytes: &[u8], y: &Table, y_bytes: &[u8], marks: &mut [u8]) -> Reply {
@@ -184,7 +184,7 @@ pub fn c_refine(x: &Table, x_bytes: &[u8], y: &Table, y_bytes: &[u8], marks: &mu
             x.states, x.initial, x.inputs, x.outputs, start(x_bytes), x_bytes.len(),
             y.states, y.initial, y.inputs, y.outputs, start(y_bytes), y_bytes.len(), marks.as_mut_ptr(), marks.len())
     };
-    Reply { number: reply.number, place: reply.table, yes: reply.refines, ..Reply::default() }
+    Reply { number: reply.number, table: reply.table, yes: reply.refines, ..Reply::default() }
 }
 
 pub fn c_follow(t: &Table, bytes: &[u8], state: usize, signal: usize) -> Reply {
@@ -201,5 +201,5 @@ pub fn c_follow_record(t: &Table, bytes: &[u8], state: &mut usize, signal: usize
 }
 
 fn follower_reply(reply: FollowReply) -> Reply {
-    Reply { number: reply.number, place: reply.table, yes: reply.moved, value: reply.state, ..Reply::default() }
+    Reply { number: reply.number, table: reply.table, yes: reply.moved, value: reply.state, ..Reply::default() }
 }

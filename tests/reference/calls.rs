@@ -61,7 +61,7 @@ pub fn follow(table: &Table, state: usize, signal: usize) -> Reply {
     match next_state(table, state, signal) {
         Ok(Some(next)) => Reply { yes: true, value: next, ..Reply::default() },
         Ok(None) => Reply { value: state, ..Reply::default() },
-        Err(number) => Reply { number, place: 1, value: state, ..Reply::default() },
+        Err(number) => Reply { number, table: 1, value: state, ..Reply::default() },
     }
 }
 
@@ -99,8 +99,8 @@ fn holds_step(states: usize, cell: u16) -> bool {
     cell != NO_STEP && usize::from(cell) < states
 }
 
-fn accept(table: &Table, place: u32) -> Result<(), Reply> {
-    table.fault().map_or(Ok(()), |number| Reply::refused(number, place))
+fn accept(table: &Table, which: u32) -> Result<(), Reply> {
+    table.fault().map_or(Ok(()), |number| Reply::refused(number, which))
 }
 
 fn accept_both(a: &Table, b: &Table) -> Result<(), Reply> {

@@ -237,17 +237,17 @@ fn compare_chains(tally: &mut Tally, seed: u64, number: u64) {
 
 fn record(tally: &mut Tally, done: &Case, reply: &Reply) {
     let call = done.call;
-    tally.saw(&outcome(call, reply.number, reply.place, reply.yes));
+    tally.saw(&outcome(call, reply.number, reply.table, reply.yes));
     if reply.number == 0 && reply.value > 0 && matches!(call, Fit | Compose | Synthesize | CFit) {
         tally.saw(&dropping(call, reply.yes));
     }
 }
 
-fn outcome(call: Call, number: u32, place: u32, yes: bool) -> String {
+fn outcome(call: Call, number: u32, table: u32, yes: bool) -> String {
     match number {
         0 if !has_verdict(call) => format!("{call:?}: accepted"),
         0 => format!("{call:?}: {}", if yes { "yes" } else { "no" }),
-        _ => format!("{call:?}: refused {number:2} of {place}"),
+        _ => format!("{call:?}: refused {number:2} of {table}"),
     }
 }
 
@@ -267,8 +267,8 @@ fn ask_for_all_outcomes(tally: &mut Tally) {
         if matches!(call, Fit | Compose | Synthesize | CFit) {
             tally.must_have_seen(&dropping(call, true));
         }
-        for (number, place) in refusals(call) {
-            tally.must_have_seen(&outcome(call, number, place, false));
+        for (number, table) in refusals(call) {
+            tally.must_have_seen(&outcome(call, number, table, false));
         }
     }
 }

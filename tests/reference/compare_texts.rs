@@ -261,7 +261,7 @@ pub fn shown(text: &[u8]) -> String {
 fn outcome(call: &str, reply: &Reply) -> String {
     match reply.number {
         0 => format!("{call}: accepted"),
-        number => format!("{call}: refused {number:2} of {}", reply.place),
+        number => format!("{call}: refused {number:2} of {}", reply.table),
     }
 }
 
@@ -269,9 +269,9 @@ fn ask_for_all_outcomes(tally: &mut Tally) {
     let of_reading = [1, 2, 10, 13, 14, 15, 16, 17, 18, 19, 20, 21, 22];
     for number in of_reading {
         tally.must_have_seen(&format!("alone: refused {number:2} of 1"));
-        for place in [1, 2] {
-            tally.must_have_seen(&format!("together: refused {number:2} of {place}"));
-            tally.must_have_seen(&format!("report: refused {number:2} of {place}"));
+        for text in [1, 2] {
+            tally.must_have_seen(&format!("together: refused {number:2} of {text}"));
+            tally.must_have_seen(&format!("report: refused {number:2} of {text}"));
         }
         if number != 10 {
             tally.must_have_seen(&format!("name: refused {number:2} of 0"));

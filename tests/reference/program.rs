@@ -127,5 +127,5 @@ fn summary(reply: &Reply, table: &Table, flags: &[u8]) -> Vec<u8> {
 }
 
 fn refusal_line(refusal: &Reply) -> Vec<u8> {
-    line(&[b"refused", &digits(refusal.place as usize), &digits(refusal.number as usize), &digits(refusal.line)])
+    line(&[b"refused", &digits(refusal.table as usize), &digits(refusal.number as usize), &digits(refusal.line)])
 }

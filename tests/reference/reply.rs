@@ -8,7 +8,7 @@ pub struct Reply {
     /// The refusal's number, or 0.
     pub number: u32,
     /// The table or text at fault, or 0.
-    pub place: u32,
+    pub table: u32,
     /// The line of a refused reading, or 0.
     pub line: usize,
     /// The verdict; for the follower, whether it moved.
@@ -30,8 +30,8 @@ pub struct Reply {
 pub type Outcome = Result<Reply, Reply>;
 
 impl Reply {
-    pub fn refused<T>(number: u32, place: u32) -> Result<T, Reply> {
-        Err(Reply { number, place, ..Reply::default() })
+    pub fn refused<T>(number: u32, table: u32) -> Result<T, Reply> {
+        Err(Reply { number, table, ..Reply::default() })
     }
 
     pub fn with_table(self, table: &Table) -> Reply {

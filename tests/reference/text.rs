@@ -34,8 +34,8 @@ struct Reader<'r> {
 }
 
 /// A table of the text, or the refusal with its line. The numbering goes on from the texts read before.
-pub fn read(text: &[u8], place: u32, room: usize, numbering: &mut Numbering) -> Result<Table, Reply> {
-    let refused = |number, line| Err(Reply { number, place, line, ..Reply::default() });
+pub fn read(text: &[u8], which: u32, room: usize, numbering: &mut Numbering) -> Result<Table, Reply> {
+    let refused = |number, line| Err(Reply { number, table: which, line, ..Reply::default() });
     if text.len() > MOST_BYTES {
         return refused(13, 0);
     }
