@@ -25,6 +25,9 @@
 extern "C" {
 #endif
 
+/* The version of the calls: the replies of the base, without a place, were version 1; a change of any reply or argument raises it by one. */
+#define MOQRESAM_VERSION 2
+
 /* The cell without a step; the signals, and so the cells, of a state; the bytes of a cell, and of the cells of a state. */
 #define MOQRESAM_NO_STEP 65535u
 #define MOQRESAM_SIGNALS 32u
@@ -55,17 +58,34 @@ enum moqresam_refusal {
 };
 
 /*
+ * The place says where the table that `table` names is at fault; every reply ends with it. For the numbers 1 to 6 placed is true, and cell_state
+ * and cell_signal are the state and the signal:
+ *
+ *   1 to 4  of no cell in particular: state 0, signal 0;
+ *   5       of the first cell that is bad by 5, in state order, then signal order, even if an earlier cell is bad by 6; in a reply of the
+ *           follower, of its own cell: the state and the signal given;
+ *   6       of the first cell that is bad by 6, in the same order.
+ *
+ * In all other replies (accepted, "not now", 7 and up) there is no place: placed is false, cell_state and cell_signal are 0.
+ *
+ * The cell that 5 or 6 names is the two bytes at (cell_state * MOQRESAM_SIGNALS + cell_signal) * MOQRESAM_CELL_BYTES of that table's cells.
+ */
+
+/*
  * Fit: checks 1 to 6 of each table, 7, 9, 10.
  *
- * Accepted: number and table are 0; compatible says whether the first pair is kept; rounds counts the rounds that drop a pair; the flag of the
- * pair (p, q), at p * states_b + q, is 1 if the pair is kept and 0 if it is dropped, with either verdict.
- * Refused: number and table say why, compatible is false, rounds is 0.
+ * Accepted: number and table are 0; compatible says whether the first pair is kept; rounds counts the rounds that drop a pair; there is no place;
+ * the flag of the pair (p, q), at p * states_b + q, is 1 if the pair is kept and 0 if it is dropped, with either verdict.
+ * Refused: number and table say why, compatible is false, rounds is 0; 1 to 6 have a place, 7, 9 and 10 have none.
  */
 typedef struct {
     uint32_t number;
     uint32_t table;
     bool compatible;
     size_t rounds;
+    bool placed;
+    size_t cell_state;
+    size_t cell_signal;
 } moqresam_fit_reply;
 
 moqresam_fit_reply moqresam_fit(
@@ -76,14 +96,17 @@ moqresam_fit_reply moqresam_fit(
 /*
  * Refinement, whether the first table refines the second: checks 1 to 6 of each, 9, 10.
  *
- * Accepted: number and table are 0; refines is the verdict; the mark of the pair (x, y), at x * states_b + y, is 1 if the largest alternating
- * simulation holds it, else 0. Where the lists alone forbid refinement, all marks are 0.
- * Refused: number and table say why, refines is false.
+ * Accepted: number and table are 0; refines is the verdict; there is no place; the mark of the pair (x, y), at x * states_b + y, is 1 if the
+ * largest alternating simulation holds it, else 0. Where the lists alone forbid refinement, all marks are 0.
+ * Refused: number and table say why, refines is false; 1 to 6 have a place, 9 and 10 have none.
  */
 typedef struct {
     uint32_t number;
     uint32_t table;
     bool refines;
+    bool placed;
+    size_t cell_state;
+    size_t cell_signal;
 } moqresam_refine_reply;
 
 moqresam_refine_reply moqresam_refine(
@@ -94,14 +117,19 @@ moqresam_refine_reply moqresam_refine(
 /*
  * The follower, by value: checks 1 to 4, 11, 12, then 5 of its own cell alone.
  *
- * A step: number and table are 0, moved is true, state is the new state. "Not now": number and table are 0, moved is false, state is the state
- * given. Refused: number says why, table is 1, moved is false, state is the state given.
+ * A step: number and table are 0, moved is true, state is the new state; there is no place.
+ * "Not now": number and table are 0, moved is false, state is the state given; there is no place.
+ * Refused: number says why, table is 1, moved is false, state is the state given; 1 to 4 have the place state 0, signal 0, 5 has the state and
+ * signal given, 11 and 12 have none.
  */
 typedef struct {
     uint32_t number;
     uint32_t table;
     bool moved;
     size_t state;
+    bool placed;
+    size_t cell_state;
+    size_t cell_signal;
 } moqresam_follow_reply;
 
 moqresam_follow_reply moqresam_follow(
