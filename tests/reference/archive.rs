@@ -17,6 +17,9 @@ struct FitReply {
     table: u32,
     compatible: bool,
     rounds: usize,
+    placed: bool,
+    cell_state: usize,
+    cell_signal: usize,
 }
 
 #[repr(C)]
@@ -24,6 +27,9 @@ struct RefineReply {
     number: u32,
     table: u32,
     refines: bool,
+    placed: bool,
+    cell_state: usize,
+    cell_signal: usize,
 }
 
 #[repr(C)]
@@ -32,6 +38,9 @@ struct FollowReply {
     table: u32,
     moved: bool,
     state: usize,
+    placed: bool,
+    cell_state: usize,
+    cell_signal: usize,
 }
 
 #[repr(C)]
@@ -170,21 +179,21 @@ fn start(bytes: &[u8]) -> *const u8 {
 
 /// The calls for C take the numbers of a table from `a` and `b`, and the cells from the bytes beside them.
 pub fn c_fit(a: &Table, a_bytes: &[u8], b: &Table, b_bytes: &[u8], flags: &mut [u8]) -> Reply {
-    let reply = unsafe {
+    let FitReply { number, table, compatible: yes, rounds: value, placed, cell_state, cell_signal } = unsafe {
         moqresam_fit(
             a.states, a.initial, a.inputs, a.outputs, start(a_bytes), a_bytes.len(),
             b.states, b.initial, b.inputs, b.outputs, start(b_bytes), b_bytes.len(), flags.as_mut_ptr(), flags.len())
     };
-    Reply { number: reply.number, table: reply.table, yes: reply.compatible, value: reply.rounds, ..Reply::default() }
+    Reply { number, table, yes, value, placed, cell_state, cell_signal, ..Reply::default() }
 }
 
 pub fn c_refine(x: &Table, x_bytes: &[u8], y: &Table, y_bytes: &[u8], marks: &mut [u8]) -> Reply {
-    let reply = unsafe {
+    let RefineReply { number, table, refines: yes, placed, cell_state, cell_signal } = unsafe {
         moqresam_refine(
             x.states, x.initial, x.inputs, x.outputs, start(x_bytes), x_bytes.len(),
             y.states, y.initial, y.inputs, y.outputs, start(y_bytes), y_bytes.len(), marks.as_mut_ptr(), marks.len())
     };
-    Reply { number: reply.number, table: reply.table, yes: reply.refines, ..Reply::default() }
+    Reply { number, table, yes, placed, cell_state, cell_signal, ..Reply::default() }
 }
 
 pub fn c_follow(t: &Table, bytes: &[u8], state: usize, signal: usize) -> Reply {
@@ -200,6 +209,6 @@ pub fn c_follow_record(t: &Table, bytes: &[u8], state: &mut usize, signal: usize
     follower_reply(reply)
 }
 
-fn follower_reply(reply: FollowReply) -> Reply {
-    Reply { number: reply.number, table: reply.table, yes: reply.moved, value: reply.state, ..Reply::default() }
+fn follower_reply(FollowReply { number, table, moved: yes, state: value, placed, cell_state, cell_signal }: FollowReply) -> Reply {
+    Reply { number, table, yes, value, placed, cell_state, cell_signal, ..Reply::default() }
 }

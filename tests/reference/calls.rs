@@ -5,7 +5,7 @@ use crate::product::product;
 use crate::refine::{marks, refines};
 use crate::reply::{Outcome, Reply};
 use crate::synth::{lists_refused, sequencer};
-use crate::table::{has, Table, MOST_PAIRS, NO_STEP, SIGNALS};
+use crate::table::{has, Fault, Table, MOST_PAIRS, NO_STEP, SIGNALS};
 
 pub fn judge(table: &Table) -> Outcome {
     accept(table, 1)?;
@@ -56,27 +56,27 @@ pub fn synthesize(module: &Table, plan: &Table, cells: &mut [u16], flags: &mut [
     give_table(module, plan, sequencer, cells, flags)
 }
 
-/// The follower makes checks 1 to 4, 11 and 12, then 5 for its own cell. The reply's value is the state afterwards.
+/// The follower makes checks 1 to 4, 11 and 12, then 5 for its own cell, which it names. The reply's value is the state afterwards.
 pub fn follow(table: &Table, state: usize, signal: usize) -> Reply {
     match next_state(table, state, signal) {
         Ok(Some(next)) => Reply { yes: true, value: next, ..Reply::default() },
         Ok(None) => Reply { value: state, ..Reply::default() },
-        Err(number) => Reply { number, table: 1, value: state, ..Reply::default() },
+        Err(refusal) => Reply { value: state, ..refusal },
     }
 }
 
-fn next_state(table: &Table, state: usize, signal: usize) -> Result<Option<usize>, u32> {
-    if let Some(number) = table.shape_fault() {
-        return Err(number);
+fn next_state(table: &Table, state: usize, signal: usize) -> Result<Option<usize>, Reply> {
+    if let Some(fault) = table.shape_fault() {
+        return Reply::refused_at(fault, 1);
     }
     if state >= table.states {
-        return Err(11);
+        return Reply::refused(11, 1);
     }
     if !has(table.signals(), signal) {
-        return Err(12);
+        return Reply::refused(12, 1);
     }
     match table.step(state, signal) {
-        Some(next) if next >= table.states => Err(5),
+        Some(next) if next >= table.states => Reply::refused_at(Fault { number: 5, state, signal }, 1),
         step => Ok(step),
     }
 }
@@ -99,8 +99,9 @@ fn holds_step(states: usize, cell: u16) -> bool {
     cell != NO_STEP && usize::from(cell) < states
 }
 
-fn accept(table: &Table, which: u32) -> Result<(), Reply> {
-    table.fault().map_or(Ok(()), |number| Reply::refused(number, which))
+/// Checks 1 to 6; a refusal carries its place, in the table that it names.
+pub fn accept(table: &Table, which: u32) -> Result<(), Reply> {
+    table.fault().map_or(Ok(()), |fault| Reply::refused_at(fault, which))
 }
 
 fn accept_both(a: &Table, b: &Table) -> Result<(), Reply> {

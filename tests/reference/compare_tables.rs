@@ -5,9 +5,9 @@ use crate::lent::Lent;
 use crate::random::Random;
 use crate::random_tables::{chain, chain_allowed, damage, meeting_tables, module_and_plan, refining_tables, sizes};
 use crate::reply::Reply;
-use crate::table::{members, Table, NO_STEP, SIGNALS};
+use crate::table::{members, Fault, Table, NO_STEP, SIGNALS};
 use crate::tally::Tally;
-use crate::{archive, calls};
+use crate::{archive, calls, places};
 
 #[derive(Clone, Copy, Debug, PartialEq)]
 enum Call {
@@ -49,6 +49,35 @@ struct Case {
     flags: Lent<u8>,
 }
 
+/// The call and its arguments, so that a failed case can be read and typed in again.
+impl std::fmt::Debug for Case {
+    fn fmt(&self, to: &mut std::fmt::Formatter) -> std::fmt::Result {
+        let Case { call, a, b, a_bytes, b_bytes, state, signal, cells, flags } = self;
+        write!(to, "{call:?}\n  first: {a:?}\n  second: {b:?}\n  bytes {} and {}, ", a_bytes.len(), b_bytes.len())?;
+        write!(to, "state {state}, signal {signal}, cells {}, flags {}", cells.len(), flags.len())
+    }
+}
+
+impl Case {
+    /// The table that a refusal names, as the call sees it: in C its cells are the bytes.
+    fn table(&self, which: u32) -> Table {
+        let (table, bytes) = if which == 2 { (&self.b, &self.b_bytes) } else { (&self.a, &self.a_bytes) };
+        if takes_bytes(self.call) { from_bytes(table, bytes) } else { table.clone() }
+    }
+
+    /// Takes the step out of a cell of a table, and out of the bytes beside it.
+    fn mend(&mut self, which: u32, Fault { state, signal, .. }: Fault) {
+        let (table, bytes) = if which == 2 { (&mut self.b, &mut self.b_bytes) } else { (&mut self.a, &mut self.a_bytes) };
+        let place = state * SIGNALS + signal;
+        if let Some(cell) = table.cells.get_mut(place) {
+            *cell = NO_STEP;
+        }
+        if let Some(cell) = bytes.get_mut(2 * place..2 * place + 2) {
+            cell.fill(255);
+        }
+    }
+}
+
 /// Runs the cases, or one of them alone, and then asks that everything that can occur did.
 pub fn run(seed: u64, count: u64, only: Option<u64>) -> bool {
     let mut tally = Tally::default();
@@ -58,7 +87,7 @@ pub fn run(seed: u64, count: u64, only: Option<u64>) -> bool {
     if only.is_none() {
         compare_chains(&mut tally, seed, count);
     }
-    if only.is_none() && count >= 20_000 {
+    if only.is_none() && count >= 50_000 {
         ask_for_all_outcomes(&mut tally);
     }
     tally.finish()
@@ -69,15 +98,34 @@ fn compare(tally: &mut Tally, seed: u64, number: u64, case: Case) {
     let reply = by_reference(&mut expected);
     let answer = by_archive(&mut actual);
     record(tally, &expected, &reply);
+    if reply.bad_cell().is_some() {
+        mend_bad_cells(tally, seed, number, case.clone());
+    }
     tally.check(reply == answer && expected == actual, || {
         let buffers = [expected.cells.difference(&actual.cells), expected.flags.difference(&actual.flags)];
         format!(
-            "tables, seed {seed}, case {number}: {:?}\n  first: {:?}\n  second: {:?}\n  bytes {} and {}, state {}, signal {}, cells {}, flags {}\
-             \n  expected {reply:?}, state {}\n  is       {answer:?}, state {}\n  cells and flags: {buffers:?}",
-            case.call, case.a, case.b, case.a_bytes.len(), case.b_bytes.len(), case.state, case.signal, case.cells.len(), case.flags.len(),
+            "tables, seed {seed}, case {number}: {case:?}\n  expected {reply:?}, state {}\n  is       {answer:?}, state {}\n  cells and flags: {buffers:?}",
             expected.state, actual.state
         )
     });
+}
+
+/// Mends each bad cell that the archive names and calls again, until it names none. The reference is not asked: the first table's cells have to be
+/// named before the second's, and those of one table in the order of faults. So all bad cells are named, each in its turn.
+fn mend_bad_cells(tally: &mut Tally, seed: u64, number: u64, mut case: Case) {
+    let mut named = Vec::new();
+    let mut answer = by_archive(&mut case);
+    while let Some(cell) = answer.bad_cell() {
+        let comes_later = named.last() < Some(&(answer.table, cell));
+        named.push((answer.table, cell));
+        if !comes_later {
+            break;
+        }
+        case.mend(answer.table, cell);
+        answer = by_archive(&mut case);
+    }
+    tally.saw(&mended(named.len()));
+    tally.check(answer.bad_cell().is_none(), || format!("tables, seed {seed}, case {number}: bad cells named out of turn: {named:?}\n  {case:?}"));
 }
 
 fn by_reference(case: &mut Case) -> Reply {
@@ -143,20 +191,21 @@ fn random_case(r: &mut Random) -> Case {
     let (mut cells, mut flags) = (pairs * SIGNALS, pairs);
     let is_count = matches!(call, CountKept | CountSteps | CountEnds);
     let faults = if is_count { 0 } else { r.pick(&[0, 0, 0, 0, 0, 0, 1, 1, 2, 3]) };
+    // A fault of the first table hides those of the second, so the second is at times damaged alone.
+    let spares_first = !takes_one(call) && r.percent(40);
     for _ in 0..faults {
-        match r.below(5) {
+        match r.below(6) {
             0 => cells = wrong_length(r, cells),
             1 => flags = wrong_length(r, flags),
-            2 if takes_one(call) => damage(r, &mut a),
-            2 => damage(r, &mut b),
-            _ => damage(r, &mut a),
+            2 if !takes_one(call) => damage(r, &mut b),
+            _ => damage(r, if spares_first { &mut b } else { &mut a }),
         }
     }
     if is_count {
         scatter(r, &mut a);
     }
     let (state, signal) = (random_state(r, &a), random_signal(r, &a));
-    if faults > 0 && r.percent(30) {
+    if faults > 0 && is_follower(call) && r.percent(50) {
         damage_own_cell(r, &mut a, state, signal);
     }
     let (a_bytes, b_bytes) = (random_bytes(r, &a, faults), random_bytes(r, &b, faults));
@@ -164,7 +213,15 @@ fn random_case(r: &mut Random) -> Case {
 }
 
 fn takes_one(call: Call) -> bool {
-    matches!(call, Judge | Mirror | Follow | CFollow | CFollowRecord)
+    matches!(call, Judge | Mirror) || is_follower(call)
+}
+
+fn is_follower(call: Call) -> bool {
+    matches!(call, Follow | CFollow | CFollowRecord)
+}
+
+fn takes_bytes(call: Call) -> bool {
+    matches!(call, CFit | CRefine | CFollow | CFollowRecord)
 }
 
 fn wrong_length(r: &mut Random, length: usize) -> usize {
@@ -237,7 +294,11 @@ fn compare_chains(tally: &mut Tally, seed: u64, number: u64) {
 
 fn record(tally: &mut Tally, done: &Case, reply: &Reply) {
     let call = done.call;
-    tally.saw(&outcome(call, reply.number, reply.table, reply.yes));
+    let seen = outcome(call, reply.number, reply.table, reply.yes);
+    tally.saw(&seen);
+    if let Some(cell) = reply.bad_cell() {
+        places::record(tally, &seen, cell, &done.table(reply.table));
+    }
     if reply.number == 0 && reply.value > 0 && matches!(call, Fit | Compose | Synthesize | CFit) {
         tally.saw(&dropping(call, reply.yes));
     }
@@ -256,6 +317,10 @@ fn has_verdict(call: Call) -> bool {
     !matches!(call, Judge | Mirror | Product | CountKept | CountSteps | CountEnds)
 }
 
+fn mended(cells: usize) -> String {
+    format!("{cells} bad cells of a call mended, one by one")
+}
+
 fn dropping(call: Call, yes: bool) -> String {
     format!("{call:?}: {}, with pairs dropped", if yes { "yes" } else { "no" })
 }
@@ -268,8 +333,13 @@ fn ask_for_all_outcomes(tally: &mut Tally) {
             tally.must_have_seen(&dropping(call, true));
         }
         for (number, table) in refusals(call) {
-            tally.must_have_seen(&outcome(call, number, table, false));
+            let refusal = outcome(call, number, table, false);
+            tally.must_have_seen(&refusal);
+            places::ask(tally, &refusal, number, is_follower(call));
         }
+    }
+    for cells in [1, 2, 5] {
+        tally.must_have_seen(&mended(cells));
     }
 }
 

@@ -9,7 +9,7 @@ use crate::reply::Reply;
 use crate::table::{has, members, Table, NO_STEP, SIGNALS};
 use crate::tally::Tally;
 use crate::writer::up_to_order;
-use crate::{archive, text, writer};
+use crate::{archive, places, text, writer};
 
 /// Room for the text of a sequencer with the six lines before it.
 const REPORT_BYTES: usize = 65_536 + 256;
@@ -115,7 +115,11 @@ fn compare_writing(tally: &mut Tally, r: &mut Random, what: &str) {
     let mut actual = expected.clone();
     let reply = Reply::of(writer::write(&table, &name, &names, expected.part()));
     let answer = archive::write(&table, &name, &names, actual.part());
-    tally.saw(&outcome("write", &reply));
+    let seen = outcome("write", &reply);
+    tally.saw(&seen);
+    if let Some(cell) = reply.bad_cell() {
+        places::record(tally, &seen, cell, &table);
+    }
     let text = actual.part()[..answer.value.min(room)].to_vec();
     let same_text = up_to_order(&text) == up_to_order(&expected.part()[..reply.value]);
     // The order within a state is open, so the expected order is put in place of the other: all other bytes are compared as they are.
@@ -278,7 +282,9 @@ fn ask_for_all_outcomes(tally: &mut Tally) {
         }
     }
     for number in 1..=6 {
-        tally.must_have_seen(&format!("write: refused {number:2} of 1"));
+        let refusal = format!("write: refused {number:2} of 1");
+        tally.must_have_seen(&refusal);
+        places::ask(tally, &refusal, number, false);
     }
     for outcome in ["name: refused 12 of 0", "write: refused 16 of 0", "write: refused 18 of 0", "write: refused 23 of 0"] {
         tally.must_have_seen(outcome);

@@ -263,13 +263,12 @@ fn break_lists(r: &mut Random, x: &mut Table, y: &mut Table) {
 
 /// Damages a table in a way of refusals 1 to 6; several ways may meet in one table.
 pub fn damage(r: &mut Random, table: &mut Table) {
-    match r.below(6) {
+    match r.below(10) {
         0 => wrong_states(r, table),
         1 => table.initial = table.states.saturating_add(r.pick(&[0, 1, 65_536, 1 << 32])),
         2 => share_signal(r, table),
         3 => wrong_cells(r, table),
-        4 => bad_cell(r, table),
-        _ => undeclared_step(r, table),
+        _ => bad_cells(r, table),
     }
 }
 
@@ -291,7 +290,20 @@ fn wrong_cells(r: &mut Random, table: &mut Table) {
     table.cells.resize(r.pick(&[0, length / 2, length.saturating_sub(1), length + 1, length + SIGNALS]), NO_STEP);
 }
 
-fn bad_cell(r: &mut Random, table: &mut Table) {
+/// One cell is bad or several are: by 5, by 6, or some by each.
+fn bad_cells(r: &mut Random, table: &mut Table) {
+    let strays = r.pick(&[0, 50, 100]);
+    for _ in 0..r.pick(&[1, 1, 2, 3, 6]) {
+        if r.percent(strays) {
+            stray_step(r, table);
+        } else {
+            undeclared_step(r, table);
+        }
+    }
+}
+
+/// A step to a state that does not exist, for any signal.
+fn stray_step(r: &mut Random, table: &mut Table) {
     let least = table.states.min(65_534);
     let anywhere = r.between(least, 65_534);
     let value = r.pick(&[least, (least + 1).min(65_534), 65_534, anywhere]);
@@ -308,9 +320,11 @@ fn undeclared_step(r: &mut Random, table: &mut Table) {
     }
 }
 
+/// Any cell, at times the last one; a table may have none.
 fn any_cell<'t>(r: &mut Random, table: &'t mut Table) -> Option<&'t mut u16> {
-    let length = table.cells.len();
-    if length == 0 { None } else { table.cells.get_mut(r.below(length)) }
+    let last = table.cells.len().checked_sub(1)?;
+    let place = if r.percent(25) { last } else { r.between(0, last) };
+    table.cells.get_mut(place)
 }
 
 /// Two tables whose rounds are as many as their pairs: outputs lead along a chain into an illegal pair.

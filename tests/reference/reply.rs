@@ -1,6 +1,6 @@
 //! What a call answers: one record for every call, in the layout in which the archives give it back.
 
-use crate::table::Table;
+use crate::table::{Fault, Table};
 
 #[repr(C)]
 #[derive(Clone, Copy, Debug, Default, PartialEq, Eq)]
@@ -24,14 +24,30 @@ pub struct Reply {
     pub initial_2: usize,
     pub inputs_2: u32,
     pub outputs_2: u32,
+    /// Whether the refusal has a place: those by 1 to 6 do.
+    pub placed: bool,
+    /// The state and the signal of the place, or 0.
+    pub cell_state: usize,
+    pub cell_signal: usize,
 }
 
 /// A reply, or the refusal's reply.
 pub type Outcome = Result<Reply, Reply>;
 
 impl Reply {
+    /// A refusal by a number from 7 on carries no place.
     pub fn refused<T>(number: u32, table: u32) -> Result<T, Reply> {
         Err(Reply { number, table, ..Reply::default() })
+    }
+
+    /// A refusal by 1 to 6 carries its place.
+    pub fn refused_at<T>(Fault { number, state, signal }: Fault, table: u32) -> Result<T, Reply> {
+        Err(Reply { number, table, placed: true, cell_state: state, cell_signal: signal, ..Reply::default() })
+    }
+
+    /// The bad cell that a refusal by 5 or 6 names.
+    pub fn bad_cell(&self) -> Option<Fault> {
+        matches!(self.number, 5 | 6).then_some(Fault { number: self.number, state: self.cell_state, signal: self.cell_signal })
     }
 
     pub fn with_table(self, table: &Table) -> Reply {

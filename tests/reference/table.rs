@@ -5,6 +5,15 @@ pub const SIGNALS: usize = 32;
 pub const MOST_STATES: usize = 4_096;
 pub const MOST_PAIRS: u128 = 4_096;
 
+/// Why one of checks 1 to 6 turns a table away, and the place: a state and a signal (02, S-2). The least fault counts: the lower number, then the
+/// first place in state order, then signal order.
+#[derive(Clone, Copy, Debug, PartialEq, Eq, PartialOrd, Ord)]
+pub struct Fault {
+    pub number: u32,
+    pub state: usize,
+    pub signal: usize,
+}
+
 /// Any numbers whatever may stand here, so that damaged tables can be lent too: `fault` tells.
 #[derive(Clone, PartialEq, Eq)]
 pub struct Table {
@@ -56,36 +65,39 @@ impl Table {
         Table { inputs: self.outputs, outputs: self.inputs, ..self.clone() }
     }
 
-    /// The first of checks 1 to 6 that applies.
-    pub fn fault(&self) -> Option<u32> {
-        self.shape_fault().or_else(|| self.cell_fault())
+    /// The first of checks 1 to 6 that applies, where it first does. Any cell bad by 5 counts before all that are bad by 6.
+    pub fn fault(&self) -> Option<Fault> {
+        self.shape_fault().or_else(|| self.bad_cells().min())
     }
 
-    /// Checks 1 to 4, which look at no cell.
-    pub fn shape_fault(&self) -> Option<u32> {
-        if self.states == 0 || self.states > MOST_STATES {
-            Some(1)
+    /// Checks 1 to 4, which look at no cell: their place is state 0, signal 0.
+    pub fn shape_fault(&self) -> Option<Fault> {
+        let number = if self.states == 0 || self.states > MOST_STATES {
+            1
         } else if self.initial >= self.states {
-            Some(2)
+            2
         } else if self.inputs & self.outputs != 0 {
-            Some(3)
+            3
         } else if self.cells.len() != self.states * SIGNALS {
-            Some(4)
+            4
         } else {
-            None
-        }
+            return None;
+        };
+        Some(Fault { number, state: 0, signal: 0 })
     }
 
-    /// Checks 5 and 6: each walks the whole table, so a bad cell anywhere comes before an undeclared step.
-    fn cell_fault(&self) -> Option<u32> {
-        let bad = |&cell: &u16| cell != NO_STEP && usize::from(cell) >= self.states;
-        let undeclared = |(place, &cell): (usize, &u16)| cell != NO_STEP && !has(self.signals(), place % SIGNALS);
-        if self.cells.iter().any(bad) {
-            Some(5)
-        } else if self.cells.iter().enumerate().any(undeclared) {
-            Some(6)
-        } else {
-            None
+    /// Checks 5 and 6: the cells that either finds bad, by the lower number that applies to the cell.
+    pub fn bad_cells(&self) -> impl Iterator<Item = Fault> + '_ {
+        let cells = (0..self.states).flat_map(|state| (0..SIGNALS).map(move |signal| (state, signal)));
+        cells.filter_map(|(state, signal)| Some(Fault { number: self.bad_by(state, signal)?, state, signal }))
+    }
+
+    /// The lower of checks 5 and 6 that finds a cell bad, if one does.
+    fn bad_by(&self, state: usize, signal: usize) -> Option<u32> {
+        match self.step(state, signal)? {
+            to if to >= self.states => Some(5),
+            _ if !has(self.signals(), signal) => Some(6),
+            _ => None,
         }
     }
 }

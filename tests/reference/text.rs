@@ -33,7 +33,7 @@ struct Reader<'r> {
     has_steps: bool,
 }
 
-/// A table of the text, or the refusal with its line. The numbering goes on from the texts read before.
+/// A table of the text, or the refusal with its line; 1 and 2 too are of a line and have no place. The numbering goes on from the texts read before.
 pub fn read(text: &[u8], which: u32, room: usize, numbering: &mut Numbering) -> Result<Table, Reply> {
     let refused = |number, line| Err(Reply { number, table: which, line, ..Reply::default() });
     if text.len() > MOST_BYTES {

@@ -1,14 +1,13 @@
 //! The writer of table text, and when two texts are the same but for the order that is left open.
 
+use crate::calls::accept;
 use crate::reply::{Outcome, Reply};
 use crate::table::{has, members, Table};
 use crate::text::{is_name, MOST_BYTES};
 
 /// Checks 1 to 6, 16 (table name, then signals), 18 and 23; then the text. Bytes past it stay.
 pub fn write(table: &Table, name: &[u8], names: &[&[u8]], out: &mut [u8]) -> Outcome {
-    if let Some(number) = table.fault() {
-        return Reply::refused(number, 1);
-    }
+    accept(table, 1)?;
     let declared: Vec<&[u8]> = members(table.signals()).map(|signal| signal_name(names, signal)).collect();
     if !is_name(name) || !declared.iter().all(|name| is_name(name)) {
         return Reply::refused(16, 0);
