@@ -37,6 +37,9 @@ struct reply {
     size_t initial_2;
     uint32_t inputs_2;
     uint32_t outputs_2;
+    bool placed;
+    size_t cell_state;
+    size_t cell_signal;
 };
 
 struct reply plain_judge(const struct table *t);
