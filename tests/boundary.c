@@ -53,6 +53,7 @@ static struct table blank(size_t states, uint32_t inputs, uint32_t outputs)
     return t;
 }
 
+/* Writes a step into the cells, which all copies of a table share. */
 static struct table step(struct table t, size_t from, size_t signal, size_t to)
 {
     t.cells[2 * (from * 32 + signal)] = (uint8_t)(to & 0xff);
@@ -102,6 +103,39 @@ static bool holds(const char *text)
     return true;
 }
 
+/* ---- what a reply says of a refusal */
+
+struct refusal {
+    uint32_t number;
+    uint32_t table;
+    bool placed;
+    size_t state;
+    size_t signal;
+};
+
+static const struct refusal accepted = {MOQRESAM_ACCEPTED, 0, false, 0, 0};
+
+/* A refusal with a place: 1 to 6. */
+static struct refusal at(uint32_t number, uint32_t table, size_t state, size_t signal)
+{
+    struct refusal r = {number, table, true, state, signal};
+
+    return r;
+}
+
+/* A refusal without a place: 7 and up. */
+static struct refusal nowhere(uint32_t number, uint32_t table)
+{
+    struct refusal r = {number, table, false, 0, 0};
+
+    return r;
+}
+
+/* Whether a reply, of whichever call, says this. */
+#define SAYS(reply, wanted)                                                                                      \
+    ((reply).number == (wanted).number && (reply).table == (wanted).table && (reply).placed == (wanted).placed && \
+     (reply).cell_state == (wanted).state && (reply).cell_signal == (wanted).signal)
+
 /* ---- fit */
 
 static moqresam_fit_reply fit(struct table a, struct table b, size_t length)
@@ -114,14 +148,14 @@ static void fits(const char *what, struct table a, struct table b, bool compatib
 {
     moqresam_fit_reply r = fit(a, b, strlen(flags));
 
-    check(what, r.number == MOQRESAM_ACCEPTED && r.table == 0 && r.compatible == compatible && r.rounds == rounds && holds(flags));
+    check(what, SAYS(r, accepted) && r.compatible == compatible && r.rounds == rounds && holds(flags));
 }
 
-static void fit_refused(const char *what, struct table a, struct table b, size_t length, uint32_t number, uint32_t table)
+static void fit_refused(const char *what, struct table a, struct table b, size_t length, struct refusal wanted)
 {
     moqresam_fit_reply r = fit(a, b, length);
 
-    check(what, r.number == number && r.table == table && !r.compatible && r.rounds == 0 && holds(""));
+    check(what, SAYS(r, wanted) && !r.compatible && r.rounds == 0 && holds(""));
 }
 
 /* ---- refinement */
@@ -136,34 +170,43 @@ static void refines(const char *what, struct table a, struct table b, bool verdi
 {
     moqresam_refine_reply r = refine(a, b, strlen(marks));
 
-    check(what, r.number == MOQRESAM_ACCEPTED && r.table == 0 && r.refines == verdict && holds(marks));
+    check(what, SAYS(r, accepted) && r.refines == verdict && holds(marks));
 }
 
-static void refine_refused(const char *what, struct table a, struct table b, size_t length, uint32_t number, uint32_t table)
+static void refine_refused(const char *what, struct table a, struct table b, size_t length, struct refusal wanted)
 {
     moqresam_refine_reply r = refine(a, b, length);
 
-    check(what, r.number == number && r.table == table && !r.refines && holds(""));
+    check(what, SAYS(r, wanted) && !r.refines && holds(""));
 }
 
 /* ---- the follower: by value and by record, which must say the same */
 
-static void follows(const char *what, struct table t, size_t state, size_t signal, uint32_t number, bool moved, size_t next)
+static void follows(const char *what, struct table t, size_t state, size_t signal, struct refusal wanted, bool moved, size_t next)
 {
-    uint32_t table = number == MOQRESAM_ACCEPTED ? 0 : 1;
     moqresam_follow_reply r = moqresam_follow(t.states, t.initial, t.inputs, t.outputs, t.cells, t.length, state, signal);
     moqresam_follower record[3] = {{17}, {state}, {19}};
     moqresam_follow_reply s =
         moqresam_follow_record(t.states, t.initial, t.inputs, t.outputs, t.cells, t.length, &record[1], signal);
 
-    check(what, r.number == number && r.table == table && r.moved == moved && r.state == next);
-    check(what, s.number == number && s.table == table && s.moved == moved && s.state == next);
+    check(what, SAYS(r, wanted) && r.moved == moved && r.state == next);
+    check(what, SAYS(s, wanted) && s.moved == moved && s.state == next);
     check(what, record[0].state == 17 && record[1].state == next && record[2].state == 19);
 }
 
-static void stays(const char *what, struct table t, size_t state, size_t signal, uint32_t number)
+static void moves(const char *what, struct table t, size_t state, size_t signal, size_t next)
 {
-    follows(what, t, state, signal, number, false, state);
+    follows(what, t, state, signal, accepted, true, next);
+}
+
+static void not_now(const char *what, struct table t, size_t state, size_t signal)
+{
+    follows(what, t, state, signal, accepted, false, state);
+}
+
+static void follow_refused(const char *what, struct table t, size_t state, size_t signal, struct refusal wanted)
+{
+    follows(what, t, state, signal, wanted, false, state);
 }
 
 /* ---- tables with something wrong */
@@ -202,13 +245,26 @@ static struct table nothing(struct table t)
 
 /* ---- */
 
-/* What the calls on two tables refuse alike: checks 1 to 6 of the table at fault, in their order. */
-static void faults(const char *call, void (*refused)(const char *, struct table, struct table, size_t, uint32_t, uint32_t))
+/* What the calls on two tables refuse alike: checks 1 to 6 of the table at fault, in their order, each with its place. */
+typedef void refused_call(const char *what, struct table a, struct table b, size_t length, struct refusal wanted);
+
+/* The k-th fault of a list, in the first table, where it comes before any of the second, and in the second. */
+static void fault(const char *call, refused_call *refused, size_t k, struct table bad, struct refusal wanted)
 {
-    struct table fine = cal();
+    char what[80];
+
+    sprintf(what, "%s, fault %d of the first table, %d", call, (int)k, (int)wanted.number);
+    refused(what, bad, cal(), 12, wanted);
+    refused(what, bad, states(cal(), 0), 12, wanted);
+    wanted.table = 2;
+    sprintf(what, "%s, fault %d of the second table, %d", call, (int)k, (int)wanted.number);
+    refused(what, cal(), bad, 12, wanted);
+}
+
+/* Checks 1 to 4 name state 0, signal 0. */
+static void shape_faults(const char *call, refused_call *refused)
+{
     struct table both = lists(ref(), 3, 3);
-    struct table stray = step(ref(), 2, 31, 3);
-    struct table known = step(ref(), 2, 31, 0);
     struct {
         struct table t;
         uint32_t number;
@@ -231,25 +287,47 @@ static void faults(const char *call, void (*refused)(const char *, struct table,
         {bytes(ref(), 96), 4},
         {bytes(ref(), 190), 4},
         {bytes(ref(), 194), 4},
-        {bytes(stray, 191), 4},
+        {bytes(step(ref(), 2, 31, 3), 191), 4},
         {bytes(blank(4096, 1, 2), 262143), 4},
         {bytes(blank(4096, 1, 2), 262145), 4},
-        {stray, 5},
-        {step(stray, 0, 31, 0), 5},
-        {step(ref(), 0, 0, 256), 5},
-        {step(ref(), 0, 0, 65534), 5},
-        {known, 6},
     };
-    char what[64];
     size_t k;
 
-    for (k = 0; k < sizeof bad / sizeof bad[0]; k++) {
-        sprintf(what, "%s, fault %d of the first table, %d", call, (int)k, (int)bad[k].number);
-        refused(what, bad[k].t, fine, 12, bad[k].number, 1);
-        refused(what, bad[k].t, states(fine, 0), 12, bad[k].number, 1);
-        sprintf(what, "%s, fault %d of the second table, %d", call, (int)k, (int)bad[k].number);
-        refused(what, fine, bad[k].t, 12, bad[k].number, 2);
-    }
+    for (k = 0; k < sizeof bad / sizeof bad[0]; k++)
+        fault(call, refused, k, bad[k].t, at(bad[k].number, 1, 0, 0));
+}
+
+/* Checks 5 and 6 name the cell. */
+static void cell_faults(const char *call, refused_call *refused)
+{
+    struct {
+        struct table t;
+        struct refusal wanted;
+    } bad[] = {
+        {step(ref(), 2, 31, 3), at(5, 1, 2, 31)},
+        {step(ref(), 0, 0, 256), at(5, 1, 0, 0)},
+        {step(ref(), 0, 0, 65534), at(5, 1, 0, 0)},
+        {step(ref(), 1, POWER, 3), at(5, 1, 1, POWER)},
+        {step(ref(), 2, 31, 0), at(6, 1, 2, 31)},
+        {step(ref(), 0, READ, 0), at(6, 1, 0, READ)},
+        /* The first in state order, then signal order. */
+        {step(step(ref(), 1, READ, 3), 2, POWER, 3), at(5, 1, 1, READ)},
+        {step(step(ref(), 1, READ, 3), 1, START, 65534), at(5, 1, 1, START)},
+        {step(step(ref(), 1, READ, 1), 2, START, 1), at(6, 1, 1, READ)},
+        {step(step(ref(), 1, READ, 1), 1, START, 1), at(6, 1, 1, START)},
+        /* Any 5 before any 6. */
+        {step(step(ref(), 0, READ, 0), 2, SETTLED, 3), at(5, 1, 2, SETTLED)},
+        {step(step(ref(), 0, SETTLED, 3), 2, READ, 0), at(5, 1, 0, SETTLED)},
+        {step(step(ref(), 1, START, 0), 1, READ, 3), at(5, 1, 1, READ)},
+        /* The last cell of the largest table. */
+        {step(blank(4096, SET(POWER), SET(SETTLED)), 4095, 31, 4096), at(5, 1, 4095, 31)},
+        {step(blank(4096, SET(POWER), SET(SETTLED)), 4095, 31, 4095), at(6, 1, 4095, 31)},
+    };
+    size_t k;
+
+    for (k = 0; k < sizeof bad / sizeof bad[0]; k++)
+        fault(call, refused, k, bad[k].t, bad[k].wanted);
+    refused("6 of the first table before 5 of the second", step(ref(), 2, READ, 0), step(cal(), 0, POWER, 4), 12, at(6, 1, 2, READ));
 }
 
 /* Whether the first bytes of the lent room hold a value. */
@@ -274,15 +352,15 @@ static void test_fit(void)
     fits("ref and hasty do not fit", ref(), hasty(), false, 2, "011000011");
     fits("a table without signals fits itself", one, one, true, 0, "1");
     fits("from the last states", initial_at(ref(), 2), initial_at(cal(), 0), false, 1, "111101000111");
-    fit_refused("ref with itself", ref(), ref(), 9, 7, 0);
-    fit_refused("7 before 9", blank(65, 0, 1), blank(64, 0, 1), 4160, 7, 0);
-    fit_refused("9 before 10", blank(65, 1, 0), blank(64, 0, 1), 4159, 9, 0);
-    fit_refused("64 by 65", blank(64, 1, 0), blank(65, 0, 1), 4160, 9, 0);
-    fit_refused("4096 by 2", blank(4096, 1, 0), blank(2, 0, 1), ROOM, 9, 0);
-    fit_refused("4096 by 4096", blank(4096, 1, 0), blank(4096, 0, 1), 0, 9, 0);
-    fit_refused("a flag short", ref(), cal(), 11, 10, 0);
-    fit_refused("a flag over", ref(), cal(), 13, 10, 0);
-    fit_refused("no flag", ref(), cal(), 0, 10, 0);
+    fit_refused("ref with itself", ref(), ref(), 9, nowhere(7, 0));
+    fit_refused("7 before 9", blank(65, 0, 1), blank(64, 0, 1), 4160, nowhere(7, 0));
+    fit_refused("9 before 10", blank(65, 1, 0), blank(64, 0, 1), 4159, nowhere(9, 0));
+    fit_refused("64 by 65", blank(64, 1, 0), blank(65, 0, 1), 4160, nowhere(9, 0));
+    fit_refused("4096 by 2", blank(4096, 1, 0), blank(2, 0, 1), ROOM, nowhere(9, 0));
+    fit_refused("4096 by 4096", blank(4096, 1, 0), blank(4096, 0, 1), 0, nowhere(9, 0));
+    fit_refused("a flag short", ref(), cal(), 11, nowhere(10, 0));
+    fit_refused("a flag over", ref(), cal(), 13, nowhere(10, 0));
+    fit_refused("no flag", ref(), cal(), 0, nowhere(10, 0));
     check("64 by 64", fit(blank(64, 1, 0), blank(64, 0, 1), 4096).compatible && all_are(4096, 1));
     check("4096 by 1", fit(blank(4096, 1, 0), blank(1, 0, 1), 4096).compatible && all_are(4096, 1));
     check("1 by 4096", fit(blank(1, 1, 0), blank(4096, 0, 1), 4096).number == 0);
@@ -309,10 +387,10 @@ static void test_refine(void)
     refines("the lists forbid it", ref(), cal(), false, "000000000000");
     refines("an input less", lists(blank(1, 0, 0), 0, SET(SETTLED)), blank(1, SET(POWER), SET(SETTLED)), false, "0");
     refines("an input more", blank(1, SET(POWER), 0), blank(1, 0, 0), true, "1");
-    refine_refused("9 before 10", blank(65, 1, 0), blank(64, 1, 0), 4159, 9, 0);
-    refine_refused("64 by 65", blank(64, 1, 0), blank(65, 1, 0), 4160, 9, 0);
-    refine_refused("a mark short", ref(), ref(), 8, 10, 0);
-    refine_refused("a mark over", ref(), ref(), 10, 10, 0);
+    refine_refused("9 before 10", blank(65, 1, 0), blank(64, 1, 0), 4159, nowhere(9, 0));
+    refine_refused("64 by 65", blank(64, 1, 0), blank(65, 1, 0), 4160, nowhere(9, 0));
+    refine_refused("a mark short", ref(), ref(), 8, nowhere(10, 0));
+    refine_refused("a mark over", ref(), ref(), 10, nowhere(10, 0));
     check("64 by 64", refine(blank(64, 1, 0), blank(64, 1, 0), 4096).refines && all_are(4096, 1));
     check("4096 by 1", refine(blank(4096, 1, 0), blank(1, 1, 0), 4096).refines && all_are(4096, 1));
     check("1 by 65, the larger room", refine(blank(1, 1, 0), blank(65, 1, 0), 65).refines);
@@ -323,38 +401,41 @@ static void test_follow(void)
 {
     struct table t = step(ref(), 2, 31, 2);
     struct table large = step(step(blank(4096, SET(7), 0), 4095, 7, 258), 258, 7, 4095);
+    struct table two = step(ref(), 0, SETTLED, 3);
 
-    follows("a step by an input", ref(), 0, POWER, 0, true, 1);
-    follows("a step by an output", ref(), 1, SETTLED, 0, true, 2);
-    stays("not now", ref(), 1, POWER, 0);
-    stays("not now at the end", ref(), 2, SETTLED, 0);
-    follows("a step to the same state", step(ref(), 2, POWER, 2), 2, POWER, 0, true, 2);
-    follows("low byte first", large, 4095, 7, 0, true, 258);
-    follows("high byte second", large, 258, 7, 0, true, 4095);
-    stays("1", states(ref(), 0), 0, POWER, 1);
-    stays("1, more than 4,096", states(ref(), 4097), 0, POWER, 1);
-    stays("1, as many as there are numbers", states(ref(), SIZE_MAX), 0, POWER, 1);
-    stays("2", initial_at(ref(), 3), 0, POWER, 2);
-    stays("2 before 4", bytes(initial_at(ref(), 3), 191), 0, POWER, 2);
-    stays("3", lists(ref(), 1, 1), 0, POWER, 3);
-    stays("3 before 4", bytes(lists(ref(), 1, 1), 191), 0, POWER, 3);
-    stays("4, a byte short", bytes(ref(), 191), 0, POWER, 4);
-    stays("4, a byte over", bytes(ref(), 193), 0, POWER, 4);
-    stays("4, no bytes", nothing(ref()), 0, POWER, 4);
-    stays("4, states by 32", bytes(ref(), 96), 0, POWER, 4);
-    stays("4 before 11", bytes(ref(), 191), 3, POWER, 4);
-    stays("11", ref(), 3, POWER, 11);
-    stays("11, the largest number", ref(), SIZE_MAX, POWER, 11);
-    stays("11 before 12", ref(), 3, 32, 11);
-    stays("12, not declared", ref(), 0, READ, 12);
-    stays("12, a step there", t, 2, 31, 12);
-    stays("12, signal 32", ref(), 0, 32, 12);
-    stays("12, the largest number", ref(), 0, SIZE_MAX, 12);
-    follows("signal 31, declared", lists(t, SET(31), 0), 2, 31, 0, true, 2);
-    stays("5 of its own cell", step(ref(), 0, POWER, 3), 0, POWER, 5);
-    stays("5, 65,534", step(ref(), 0, POWER, 65534), 0, POWER, 5);
-    follows("5 of another cell does not matter", step(ref(), 0, SETTLED, 3), 0, POWER, 0, true, 1);
-    follows("6 does not matter", t, 0, POWER, 0, true, 1);
+    moves("a step by an input", ref(), 0, POWER, 1);
+    moves("a step by an output", ref(), 1, SETTLED, 2);
+    not_now("not now", ref(), 1, POWER);
+    not_now("not now at the end", ref(), 2, SETTLED);
+    moves("a step to the same state", step(ref(), 2, POWER, 2), 2, POWER, 2);
+    moves("low byte first", large, 4095, 7, 258);
+    moves("high byte second", large, 258, 7, 4095);
+    follow_refused("1", states(ref(), 0), 0, POWER, at(1, 1, 0, 0));
+    follow_refused("1, more than 4,096", states(ref(), 4097), 0, POWER, at(1, 1, 0, 0));
+    follow_refused("1, as many as there are numbers", states(ref(), SIZE_MAX), 0, POWER, at(1, 1, 0, 0));
+    follow_refused("2", initial_at(ref(), 3), 0, POWER, at(2, 1, 0, 0));
+    follow_refused("2 before 4", bytes(initial_at(ref(), 3), 191), 0, POWER, at(2, 1, 0, 0));
+    follow_refused("3", lists(ref(), 1, 1), 0, POWER, at(3, 1, 0, 0));
+    follow_refused("3 before 4", bytes(lists(ref(), 1, 1), 191), 0, POWER, at(3, 1, 0, 0));
+    follow_refused("4, a byte short", bytes(ref(), 191), 0, POWER, at(4, 1, 0, 0));
+    follow_refused("4, a byte over", bytes(ref(), 193), 0, POWER, at(4, 1, 0, 0));
+    follow_refused("4, no bytes", nothing(ref()), 0, POWER, at(4, 1, 0, 0));
+    follow_refused("4, states by 32", bytes(ref(), 96), 0, POWER, at(4, 1, 0, 0));
+    follow_refused("4 before 11", bytes(ref(), 191), 3, POWER, at(4, 1, 0, 0));
+    follow_refused("11", ref(), 3, POWER, nowhere(11, 1));
+    follow_refused("11, the largest number", ref(), SIZE_MAX, POWER, nowhere(11, 1));
+    follow_refused("11 before 12", ref(), 3, 32, nowhere(11, 1));
+    follow_refused("12, not declared", ref(), 0, READ, nowhere(12, 1));
+    follow_refused("12, a step there", t, 2, 31, nowhere(12, 1));
+    follow_refused("12, signal 32", ref(), 0, 32, nowhere(12, 1));
+    follow_refused("12, the largest number", ref(), 0, SIZE_MAX, nowhere(12, 1));
+    moves("signal 31, declared", lists(t, SET(31), 0), 2, 31, 2);
+    follow_refused("5 of its own cell", step(ref(), 0, POWER, 3), 0, POWER, at(5, 1, 0, POWER));
+    follow_refused("5, 65,534", step(ref(), 0, POWER, 65534), 0, POWER, at(5, 1, 0, POWER));
+    follow_refused("5 of its own cell, not the first bad one", step(two, 2, SETTLED, 3), 2, SETTLED, at(5, 1, 2, SETTLED));
+    follow_refused("5 of the last cell", step(blank(4096, SET(31), 0), 4095, 31, 4096), 4095, 31, at(5, 1, 4095, 31));
+    moves("5 of another cell does not matter", step(ref(), 0, SETTLED, 3), 0, POWER, 1);
+    moves("6 does not matter", t, 0, POWER, 1);
 }
 
 /* A startup from the first signal to the last in one record: it moves at every signal that is due, not at the first alone. */
@@ -363,7 +444,7 @@ static void test_startup(void)
     static const size_t signals[] = {READ, START, START, POWER, SETTLED, 40, READ, READ};
     static const size_t after[] = {0, 1, 1, 2, 3, 3, 4, 4};
     static const uint32_t number[] = {0, 0, 0, 0, 0, 12, 0, 0};
-    static const bool moves[] = {false, true, false, true, true, false, true, false};
+    static const bool moved[] = {false, true, false, true, true, false, true, false};
     struct table plan = blank(5, SET(START), SET(POWER) | SET(SETTLED) | SET(READ));
     moqresam_follower record = {0};
     size_t k;
@@ -372,16 +453,19 @@ static void test_startup(void)
     for (k = 0; k < sizeof signals / sizeof signals[0]; k++) {
         moqresam_follow_reply r =
             moqresam_follow_record(plan.states, plan.initial, plan.inputs, plan.outputs, plan.cells, plan.length, &record, signals[k]);
+        struct refusal wanted = number[k] == 0 ? accepted : nowhere(number[k], 1);
 
         check("a startup", record.state == after[k] && r.state == after[k]);
-        check("a startup's replies", r.number == number[k] && r.table == (number[k] != 0) && r.moved == moves[k]);
+        check("a startup's replies", SAYS(r, wanted) && r.moved == moved[k]);
     }
 }
 
 int main(void)
 {
-    faults("fit", fit_refused);
-    faults("refine", refine_refused);
+    shape_faults("fit", fit_refused);
+    cell_faults("fit", fit_refused);
+    shape_faults("refine", refine_refused);
+    cell_faults("refine", refine_refused);
     test_fit();
     test_refine();
     test_follow();
