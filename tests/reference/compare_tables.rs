@@ -49,7 +49,7 @@ struct Case {
     flags: Lent<u8>,
 }
 
-/// The call and its arguments, so that a failed case can be read and typed in again.
+/// The call and its arguments, as a failed case shows them.
 impl std::fmt::Debug for Case {
     fn fmt(&self, to: &mut std::fmt::Formatter) -> std::fmt::Result {
         let Case { call, a, b, a_bytes, b_bytes, state, signal, cells, flags } = self;
