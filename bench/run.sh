@@ -1,11 +1,10 @@
 #!/usr/bin/env bash
-# Benchmarks: the archive against plain Rust and plain C, in one run. Arguments go to the program: bench/main.rs says which it takes. ARCHIVE names
-# another archive than that of this tree. SHIFT, a multiple of 16, has the linker put the archive's functions where they fit, so many bytes further on:
-# bench/compare.py says why.
+# Benchmarks: the archive against plain Rust and plain C, in one run. Arguments go to the program: bench/main.rs says which it takes. SHIFT, a multiple
+# of 16, has the linker put the archive's functions where they fit, so many bytes further on: bench/compare.py says why.
 set -euo pipefail
 cd "$(dirname "$0")/.."
 
-archive=${ARCHIVE:-target/staticlib/libharness.a}
+archive=target/staticlib/libharness.a
 [ -f "$archive" ] || { echo "tests/archives.sh builds $archive"; exit 1; }
 
 out=$(mktemp -d)

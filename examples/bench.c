@@ -81,11 +81,11 @@ static void print_signal(const struct table *t, size_t signal)
         printf("signal %zu", signal);
 }
 
-/* Prints why a call is refused, and for 5 and 6 the cell of the table at fault; the other numbers are about no single cell. */
-static void print_refusal(uint32_t number, uint32_t table, const struct table *at_fault, size_t state, size_t signal)
+/* Prints why a call is refused, and the cell of the table at fault. Numbers 1 to 4 name state 0, signal 0, which tells a person nothing. */
+static void print_refusal(uint32_t number, uint32_t table, const struct table *at_fault, bool placed, size_t state, size_t signal)
 {
     printf("refused %u, table %u", (unsigned)number, (unsigned)table);
-    if (number == MOQRESAM_REFUSED_CELL || number == MOQRESAM_REFUSED_UNDECLARED) {
+    if (placed && number >= MOQRESAM_REFUSED_CELL) {
         printf(", state %zu, ", state);
         print_signal(at_fault, signal);
     }
@@ -103,7 +103,7 @@ static void fit(const struct table *a, const struct table *b)
 
     printf("fit %s %s: ", a->name, b->name);
     if (r.number != MOQRESAM_ACCEPTED) {
-        print_refusal(r.number, r.table, r.table == 2 ? b : a, r.cell_state, r.cell_signal);
+        print_refusal(r.number, r.table, r.table == 2 ? b : a, r.placed, r.cell_state, r.cell_signal);
         printf("\n");
         return;
     }
@@ -127,7 +127,7 @@ static void refine(const struct table *a, const struct table *b)
 
     printf("refine %s %s: ", a->name, b->name);
     if (r.number != MOQRESAM_ACCEPTED) {
-        print_refusal(r.number, r.table, r.table == 2 ? b : a, r.cell_state, r.cell_signal);
+        print_refusal(r.number, r.table, r.table == 2 ? b : a, r.placed, r.cell_state, r.cell_signal);
         printf("\n");
         return;
     }
@@ -149,7 +149,7 @@ static void signal_came(const struct table *t, moqresam_follower *follower, size
     print_signal(t, signal);
     printf(": ");
     if (r.number != MOQRESAM_ACCEPTED)
-        print_refusal(r.number, r.table, t, r.cell_state, r.cell_signal);
+        print_refusal(r.number, r.table, t, r.placed, r.cell_state, r.cell_signal);
     else if (r.moved)
         printf("moved to %zu", r.state);
     else

@@ -1,5 +1,5 @@
 #!/usr/bin/env python3
-"""Runs the bench program on each folder of tests/cases and compares what it prints with the folder's file stdout, byte for byte. A folder has
+"""Runs the program on each folder of tests/cases and compares what it prints with the folder's file stdout, byte for byte. A folder has
 module.tab and plan.tab, or lacks one that cannot be read, and a note of what it tries. The program runs in a copy of the folder.
 
     cases.py [WORD ..]    the words stand before the program's path, as `valgrind -q --error-exitcode=9`

@@ -3,7 +3,7 @@
 
     readings.py            works out what the program `readings` has to write for the texts in its data/, and compares crates/readings/stdout
     readings.py --write    prints it
-    readings.py FOLDER     compares with cases of the bench program, folders with module.tab, plan.tab and the expected stdout: which texts are
+    readings.py FOLDER     compares with cases of the program, folders with module.tab, plan.tab and the expected stdout: which texts are
                            refused, and with which line; the cases that data/ has too must have the same texts there
 
 The exit status is 1 where something differs."""
@@ -15,7 +15,7 @@ FILES = ("module.tab", "plan.tab")
 ROOM = 32768  # lent cells
 NONE = 65535
 
-# The cases by number: case00 is the first. Those with a number in front are cases of the bench program.
+# The cases by number: case00 is the first. Those with a number in front are cases of the program.
 CASES = """
 001-run 002-star-waits 003-star-none 005-star-hasty 007-ref-plan-ref 009-ref21-plan-ref 011-input-to-illegal
 013-plan-input-refused-by-module 015-no-steps 017-odd-names 019-case-differs-across 021-names-32 023-pairs-1024 024-dropped-start-none-steps
@@ -226,7 +226,7 @@ def compare_output():
 
 
 def compare_cases(top):
-    """The faults of the expectations in a folder of cases of the bench program."""
+    """The faults of the expectations in a folder of cases of the program."""
     faults, refused, accepted, same = [], 0, 0, 0
     for name in sorted(os.listdir(top)):
         folder = os.path.join(top, name)

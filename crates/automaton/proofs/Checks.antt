@@ -36,14 +36,14 @@ module _ (m : ℕ) (l : List Check) (k : Checked) (first-part : k ≡ first (tak
   pub part-accepted : k ≡ Accepted → first l ≡ first (drop m l)
   part-accepted e = in-parts ∙ rw e
 
--- ---- what the walks find, as a refusal that names table i
+-- ---- what the walks find, as the answer of the checks, which names table i
 
-abbrev refusalOf : ℕ → Finding → Checked
-refusalOf i (Fault c k) = refuseAt c i (cellOf k)
-refusalOf i Nothing = Accepted
+abbrev answerOf : ℕ → Finding → Checked
+answerOf i (Fault c k) = refuseAt c i (cellOf k)
+answerOf i Nothing = Accepted
 
 five-or-six : (i : ℕ) (five six : Bool) (x y : ℕ)
-    → cond five (refuseAt 5 i (cellOf x)) (cond six (refuseAt 6 i (cellOf y)) Accepted) ≡ refusalOf i (cond five (Fault 5 x) (cond six (Fault 6 y) Nothing))
+    → cond five (refuseAt 5 i (cellOf x)) (cond six (refuseAt 6 i (cellOf y)) Accepted) ≡ answerOf i (cond five (Fault 5 x) (cond six (Fault 6 y) Nothing))
 five-or-six i true six x y = refl
 five-or-six i false true x y = refl
 five-or-six i false false x y = refl
@@ -134,14 +134,14 @@ module _ (i : ℕ) (a : Automaton) where
         undeclared d lists = λ j k. ltb (getD cells k 65535) n && not (union 0 d (k % 32) lists j)
 
         module _ (d : ℕ) (f : Finding) (lists : d ≡ bitOr (a .inputs) (a .outputs)) (walked : f ≡ firstFault n d cells) where
-          found : first (tableChecks i t) ≡ refusalOf i f
+          found : first (tableChecks i t) ≡ answerOf i f
           unfolding first tableChecks firstFault
           found =
               part-accepted 4 (tableChecks i t) k shape fine ∙ rw (walked, whole, undeclared d lists)
               (five-or-six i (any (n * 32) (isStray t)) (any (n * 32) (isUndeclared t)) _ _)
 
           pub check-cells : (c at : ℕ) (x : Checked) → f ≡ Fault c at → x ≡ refuseAt c i (cellOf at) → x ≡ first (tableChecks i t)
-          check-cells c at x h e = e ∙ sym (found ∙ ap (refusalOf i) h)
+          check-cells c at x h e = e ∙ sym (found ∙ ap (answerOf i) h)
 
           pub check-ok : f ≡ Nothing → Accepted ≡ first (tableChecks i t)
-          check-ok h = sym (found ∙ ap (refusalOf i) h)
+          check-ok h = sym (found ∙ ap (answerOf i) h)

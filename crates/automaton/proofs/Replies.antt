@@ -11,7 +11,7 @@ use Rattle.theory.specs.Checks.{first, tableChecks}
 use Rattle.automaton.specs.declared.Mirrored.the-variants as mirrored
 use Rattle.automaton.specs.declared.Status.{Status}
 use Rattle.automaton.specs.Replies.{mirrorReply}
-use Rattle.automaton.specs.Statuses.{unplaced, statusAt, statusOf}
+use Rattle.automaton.specs.Statuses.{statusNowhere, statusAt, statusOf}
 
 module _ (t : Table) (k : Checked) (checked : k ≡ first (tableChecks 1 t)) where
   pub mirror-refused : (r : Refusal) → k ≡ Refused r → mirrored.Refused r ≡ mirrorReply t
@@ -27,5 +27,5 @@ module _ (t : Table) (k : Checked) (checked : k ≡ first (tableChecks 1 t)) whe
 pub status-cell : (r : Refusal) (s a : ℕ) → r .location ≡ Cell s a → statusAt (r .number) (r .table) (Cell s a) ≡ statusOf r
 status-cell r s a e = rw e
 
-pub status-nowhere : (r : Refusal) (x : Status) → r .location ≡ Nowhere → x ≡ unplaced (r .number) (r .table) → x ≡ statusOf r
+pub status-nowhere : (r : Refusal) (x : Status) → r .location ≡ Nowhere → x ≡ statusNowhere (r .number) (r .table) → x ≡ statusOf r
 status-nowhere r x e u = u ∙ rw e

@@ -7,16 +7,16 @@ use Rattle.theory.specs.declared.Refusal.{Refusal}
 use Rattle.automaton.specs.declared.Status.{Status}
 
 -- No cell is named: its numbers are 0.
-abbrev pub unplaced : ℕ → ℕ → Status
-unplaced n i = record { number = n; table = i; placed = false; state = 0; action = 0 }
+abbrev pub statusNowhere : ℕ → ℕ → Status
+statusNowhere n i = record { number = n; table = i; placed = false; state = 0; action = 0 }
 
 abbrev pub statusAt : ℕ → ℕ → Location → Status
 statusAt n i (Cell s a) = record { number = n; table = i; placed = true; state = s; action = a }
-statusAt n i Nowhere = unplaced n i
+statusAt n i Nowhere = statusNowhere n i
 
 abbrev pub statusOf : Refusal → Status
 statusOf r = statusAt (r .number) (r .table) (r .location)
 
 -- Nothing is refused.
-abbrev pub accepted : Status
-accepted = unplaced 0 0
+abbrev pub acceptedStatus : Status
+acceptedStatus = statusNowhere 0 0

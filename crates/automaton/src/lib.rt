@@ -10,7 +10,7 @@ ghost use Rattle.theory.specs.Table.{table, member, mirrorHeader};
 ghost use Rattle.theory.specs.declared.Location.the-variants.{Cell, Nowhere};
 ghost use Rattle.theory.specs.Checks.{first, refuse as refused, refuseAt as refusedAt, cellOf, tableChecks};
 ghost use Rattle.automaton.specs.Replies.{mirrorReply};
-ghost use Rattle.automaton.specs.Statuses.{unplaced as unplacedStatus, statusOf};
+ghost use Rattle.automaton.specs.Statuses.{statusNowhere, statusOf, acceptedStatus};
 ghost use Rattle.automaton.specs.Cells.{stepless};
 use faults::Finding;
 use theory::Automaton;
@@ -59,7 +59,7 @@ pub fn refuse(number: u32, table: u32) -> Checked
     Checked::Refused(refusal(number, table))
 }
 
-// Turns a call away by 5 or 6, at the cell with this index.
+// Turns a call away by a number from 1 to 6, and names the cell with this index.
 fn refuse_cell(number: u32, table: u32, cell: usize) -> Checked
     ensures { λ r. ⌜ r ≡ refusedAt number table (cellOf cell) ⌝ }
 {
@@ -70,16 +70,16 @@ fn refuse_cell(number: u32, table: u32, cell: usize) -> Checked
     Checked::Refused(refusal_at(number, table, location))
 }
 
-// Turns a call away by a number from 1 to 4: they name the first cell, that of state 0 and action 0 (document 02, S-2).
+// Turns a call away by a number from 1 to 4: they are of no cell in particular, and name state 0 and action 0 (document 02, S-2).
 fn refuse_table(number: u32, table: u32) -> Checked
     ensures { λ r. ⌜ r ≡ refusedAt number table (Cell 0 0) ⌝ }
 {
     refuse_cell(number, table, 0)
 }
 
-// Gives a refusal that names no cell in numbers; with 0 and 0, that nothing is refused.
-pub fn unplaced(number: u32, table: u32) -> Status
-    ensures { λ r. ⌜ r ≡ unplacedStatus number table ⌝ }
+// Gives a refusal that names no cell in numbers.
+pub fn status_nowhere(number: u32, table: u32) -> Status
+    ensures { λ r. ⌜ r ≡ statusNowhere number table ⌝ }
 {
     Status {
         number,
@@ -88,6 +88,13 @@ pub fn unplaced(number: u32, table: u32) -> Status
         state: 0,
         action: 0,
     }
+}
+
+// Says in numbers that nothing is refused.
+pub fn accepted() -> Status
+    ensures { λ r. ⌜ r ≡ acceptedStatus ⌝ }
+{
+    status_nowhere(0, 0)
 }
 
 // Gives a refusal in numbers.
@@ -103,7 +110,7 @@ pub fn status_of(why: Refusal) -> Status
             state,
             action,
         },
-        Location::Nowhere => unplaced(why.number, why.table),
+        Location::Nowhere => status_nowhere(why.number, why.table),
     }
 }
 

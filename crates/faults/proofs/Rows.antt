@@ -11,7 +11,7 @@ use lib.ListN.{getD, length}
 use borrow.Author.Tests.{eq-eqb, ne-eqb, lt-ltb, le-ltb}
 use Rattle.theory.specs.Bounded.{any, lowest}
 use Rattle.theory.specs.Table.{member}
-use Rattle.theory.proofs.Lowest.{pass, found, passed, reach}
+use Rattle.theory.proofs.Lowest.{none-next, none-same, lowest-found, lowest-none}
 use Rattle.faults.specs.Cells.{fault, faultAt, SoundBefore}
 
 module _ (six : Bool) (n acts cell a : ℕ) where
@@ -46,12 +46,12 @@ module _ (six : Bool) (cells : List ℕ) (n acts count row a : ℕ) (r : Bool) (
       rw (digits-mod row low, within cells (row * 32 + a) 65535 0 in-row) (sym reply)
 
   pub walk-on : r ≡ false → any (row * 32 + (a + 1)) (faultAt six n acts cells) ≡ false
-  walk-on e = reach _ (row * 32 + a + 1) (row * 32 + (a + 1)) (pass _ (row * 32 + a) before (here ∙ e)) (omega arith)
+  walk-on e = none-same _ (row * 32 + a + 1) (row * 32 + (a + 1)) (none-next _ (row * 32 + a) before (here ∙ e)) (omega arith)
 
   pub walk-found : r ≡ true → row * 32 + a ≡ lowest (length cells / 32 * 32) (faultAt six n acts cells)
-  walk-found e = found _ (length cells / 32 * 32) (row * 32 + a) (omega arith) before (here ∙ e)
+  walk-found e = lowest-found _ (length cells / 32 * 32) (row * 32 + a) (omega arith) before (here ∙ e)
 
 pub walk-end : (six : Bool) (cells : List ℕ) (n acts count row at : ℕ) → count ≡ length cells / 32 → at ≡ count * 32 → row ≤ count → count ≤ row
     → any (row * 32) (faultAt six n acts cells) ≡ false → at ≡ lowest (length cells / 32 * 32) (faultAt six n acts cells)
 walk-end six cells n acts count row at rows e h l before =
-    e ∙ rw rows (passed _ (length cells / 32 * 32) (reach _ (row * 32) (length cells / 32 * 32) before (omega arith)))
+    e ∙ rw rows (lowest-none _ (length cells / 32 * 32) (none-same _ (row * 32) (length cells / 32 * 32) before (omega arith)))

@@ -22,28 +22,28 @@ module _ (i : ℕ) (a : Automaton) (count s x : ℕ) where
   abbrev bare : Table
   bare = stepless a count
 
-  abbrev place : List Check
-  place = take 6 (monitorChecks i bare s x)
+  abbrev position : List Check
+  position = take 6 (monitorChecks i bare s x)
 
   module _ (k : Checked) (shape : k ≡ first (take 4 (tableChecks i bare))) where
-    pub place-shape : (r : Refusal) → k ≡ Refused r → k ≡ first (take 6 (monitorChecks i bare s x))
+    pub position-shape : (r : Refusal) → k ≡ Refused r → k ≡ first (take 6 (monitorChecks i bare s x))
     unfolding tableChecks monitorChecks
-    place-shape r e = part-refused 4 place k shape r e
+    position-shape r e = part-refused 4 position k shape r e
 
     module _ (fine : k ≡ Accepted) where
       own : first (take 6 (monitorChecks i bare s x)) ≡ first (drop 4 (take 6 (monitorChecks i bare s x)))
       unfolding tableChecks monitorChecks
-      own = part-accepted 4 place k shape fine
+      own = part-accepted 4 position k shape fine
 
-      pub place-11 : (y : Checked) → n ≤ s → y ≡ refuse 11 i → y ≡ first (take 6 (monitorChecks i bare s x))
+      pub position-11 : (y : Checked) → n ≤ s → y ≡ refuse 11 i → y ≡ first (take 6 (monitorChecks i bare s x))
       unfolding first monitorChecks
-      place-11 y h e = e ∙ sym (own ∙ rw (le-leb n s h))
+      position-11 y h e = e ∙ sym (own ∙ rw (le-leb n s h))
 
       module _ (below : s < n) (d : ℕ) (lists : d ≡ bitOr (a .inputs) (a .outputs)) (b : Bool) (known : b ≡ member d x) where
-        pub place-12 : (y : Checked) → not b ≡ true → y ≡ refuse 12 i → y ≡ first (take 6 (monitorChecks i bare s x))
+        pub position-12 : (y : Checked) → not b ≡ true → y ≡ refuse 12 i → y ≡ first (take 6 (monitorChecks i bare s x))
         unfolding first monitorChecks
-        place-12 y h e = e ∙ sym (own ∙ rw (lt-leb n s below, ← union i a count d x lists, ← known, h))
+        position-12 y h e = e ∙ sym (own ∙ rw (lt-leb n s below, ← union i a count d x lists, ← known, h))
 
-        pub place-ok : not b ≡ false → Accepted ≡ first (take 6 (monitorChecks i bare s x))
+        pub position-ok : not b ≡ false → Accepted ≡ first (take 6 (monitorChecks i bare s x))
         unfolding first monitorChecks
-        place-ok h = sym (own ∙ rw (lt-leb n s below, ← union i a count d x lists, ← known, h))
+        position-ok h = sym (own ∙ rw (lt-leb n s below, ← union i a count d x lists, ← known, h))

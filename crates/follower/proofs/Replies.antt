@@ -33,7 +33,8 @@ module _ (n s a cell : ℕ) where
   pub own-none : n ≤ cell → cell ≡ 65535 → followed.NotNow ≡ ownReply n s a cell
   own-none h e = rw (eq-eqb cell 65535 e, le-ltb cell n h)
 
-  pub own-stray : (r : Refusal) → n ≤ cell → (cell ≡ 65535 → ⊥) → r ≡ record { number = 5; table = 1; location = Cell s a } → followed.Refused r ≡ ownReply n s a cell
+  pub own-stray : (r : Refusal) → n ≤ cell → (cell ≡ 65535 → ⊥) → r ≡ record { number = 5; table = 1; location = Cell s a }
+      → followed.Refused r ≡ ownReply n s a cell
   own-stray r h e f = rw (f, ne-eqb cell 65535 e, le-leb n cell h)
 
 -- ---- follow
@@ -44,7 +45,7 @@ five true l f = refl
 five false l f = refl
 
 -- Enough cells, the monitor's own among them (checks 1, 4, 11, 12).
-record Placed (n : ℕ) (cells : List ℕ) (s a : ℕ) : Type 0 where
+record Within (n : ℕ) (cells : List ℕ) (s a : ℕ) : Type 0 where
   pub sized : Sized n cells
   pub below : s < n
   pub narrow : a < 32
@@ -66,7 +67,7 @@ module _ (h : Automaton) (cells : List ℕ) (s a : ℕ) where
     follow-refused r e = rw (← part-refused 6 (monitorChecks 1 t s a) k place r e, e)
 
     module _ (fine : k ≡ Accepted) where
-      placed : Placed (h .states) cells s a
+      placed : Within (h .states) cells s a
       unfolding tableChecks monitorChecks
       placed =
           let e = sym place ∙ fine in

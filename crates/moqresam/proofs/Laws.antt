@@ -4,7 +4,7 @@ use mathlib.Core.Bool.{Bool, true, false}
 use Prim.Native.Nat.{ℕ}
 use Rattle.theory.specs.declared.Refusal.{Refusal}
 use Rattle.automaton.specs.declared.Status.{Status}
-use Rattle.automaton.specs.Statuses.{statusOf, accepted}
+use Rattle.automaton.specs.Statuses.{statusOf, acceptedStatus}
 use Rattle.follower.specs.declared.Followed.{Followed}
 use Rattle.follower.specs.declared.Followed.the-variants as followed
 use Rattle.compatibility.specs.declared.Compatibility.{Compatibility}
@@ -18,26 +18,25 @@ use Rattle.moqresam.specs.Replies.{fitWith, fitReply, refineWith, refine
 
 -- ---- a law for each case of a reply: s is what it says of a refusal
 
-pub fit-decided : (c : Compatibility) (v : Bool) (n : ℕ) (s : Status) (x : FitReply) → c ≡ compatibility.Decided v n → s ≡ accepted → x ≡ fitWith s v n
-    → x ≡ fitReply c
-fit-decided c v n s x e u f = f ∙ rw (e, u)
+module _ (c : Compatibility) (s : Status) (x : FitReply) where
+  pub fit-decided : (v : Bool) (n : ℕ) → c ≡ compatibility.Decided v n → s ≡ acceptedStatus → x ≡ fitWith s v n → x ≡ fitReply c
+  fit-decided v n e u f = f ∙ rw (e, u)
 
-pub fit-refused : (c : Compatibility) (r : Refusal) (s : Status) (x : FitReply) → c ≡ compatibility.Refused r → s ≡ statusOf r → x ≡ fitWith s false 0
-    → x ≡ fitReply c
-fit-refused c r s x e u f = f ∙ rw (e, u)
+  pub fit-refused : (r : Refusal) → c ≡ compatibility.Refused r → s ≡ statusOf r → x ≡ fitWith s false 0 → x ≡ fitReply c
+  fit-refused r e u f = f ∙ rw (e, u)
 
-pub refine-decided : (c : Refined) (v : Bool) (s : Status) (x : RefineReply) → c ≡ refined.Decided v → s ≡ accepted → x ≡ refineWith s v → x ≡ refineReply c
-refine-decided c v s x e u f = f ∙ rw (e, u)
+module _ (c : Refined) (s : Status) (x : RefineReply) where
+  pub refine-decided : (v : Bool) → c ≡ refined.Decided v → s ≡ acceptedStatus → x ≡ refineWith s v → x ≡ refineReply c
+  refine-decided v e u f = f ∙ rw (e, u)
 
-pub refine-refused : (c : Refined) (r : Refusal) (s : Status) (x : RefineReply) → c ≡ refined.Refused r → s ≡ statusOf r → x ≡ refineWith s false
-    → x ≡ refineReply c
-refine-refused c r s x e u f = f ∙ rw (e, u)
+  pub refine-refused : (r : Refusal) → c ≡ refined.Refused r → s ≡ statusOf r → x ≡ refineWith s false → x ≡ refineReply c
+  refine-refused r e u f = f ∙ rw (e, u)
 
 module _ (at : ℕ) (c : Followed) (s : Status) (x : FollowReply) where
-  pub follow-moved : (to : ℕ) → c ≡ followed.Moved to → s ≡ accepted → x ≡ followWith s true to → x ≡ monitorReply at c
+  pub follow-moved : (to : ℕ) → c ≡ followed.Moved to → s ≡ acceptedStatus → x ≡ followWith s true to → x ≡ monitorReply at c
   follow-moved to e u f = f ∙ rw (e, u)
 
-  pub follow-not-now : c ≡ followed.NotNow → s ≡ accepted → x ≡ followWith s false at → x ≡ monitorReply at c
+  pub follow-not-now : c ≡ followed.NotNow → s ≡ acceptedStatus → x ≡ followWith s false at → x ≡ monitorReply at c
   follow-not-now e u f = f ∙ rw (e, u)
 
   pub follow-turned-away : (r : Refusal) → c ≡ followed.Refused r → s ≡ statusOf r → x ≡ followWith s false at → x ≡ monitorReply at c

@@ -9,7 +9,7 @@ use Rattle.theory.specs.declared.Location.the-variants.{Cell, Nowhere}
 use Rattle.theory.specs.declared.Refusal.{Refusal}
 use Rattle.theory.specs.Table.{Table}
 use Rattle.theory.specs.Locations.{Located, of-table, of-five, of-six, nowhere, LocatedIn, LocatedAt}
-use Rattle.automaton.specs.Statuses.{statusOf, accepted}
+use Rattle.automaton.specs.Statuses.{statusOf, acceptedStatus}
 use Rattle.follower.specs.declared.Followed.{Followed}
 use Rattle.follower.specs.declared.Followed.the-variants as followed
 use Rattle.follower.specs.Replies.{followReply}
@@ -26,7 +26,7 @@ use Rattle.moqresam.specs.Replies.{fitReply, refineReply, monitorReply}
 use Rattle.moqresam.specs.Places.{ofFit, ofRefine, ofFollow, Placed}
 
 -- Nothing is refused, so no cell is named.
-nothing-placed : (P : Refusal → Type 0) → Placed P accepted
+nothing-placed : (P : Refusal → Type 0) → Placed P acceptedStatus
 nothing-placed P = record {
   exactly = (λ t. absurd t, λ p. absurd (omega (arith, p .0)));
   otherwise = λ n. (refl, refl);
@@ -81,14 +81,16 @@ module _ (p q : Table) where
   pub fit-placed : (flags : List ℕ) → Placed (LocatedIn (p ∷ q ∷ [])) (ofFit (fitReply (compatibilityReply p q (length flags))))
   fit-placed flags = go (compatibilityReply p q (length flags)) (fit-located p q flags)
     where
-      go : (c : Compatibility) → ((r : Refusal) → c ≡ compatibility.Refused r → LocatedIn (p ∷ q ∷ []) r) → Placed (LocatedIn (p ∷ q ∷ [])) (ofFit (fitReply c))
+      go : (c : Compatibility) → ((r : Refusal) → c ≡ compatibility.Refused r → LocatedIn (p ∷ q ∷ []) r)
+          → Placed (LocatedIn (p ∷ q ∷ [])) (ofFit (fitReply c))
       go (compatibility.Decided v n) f = nothing-placed (LocatedIn (p ∷ q ∷ []))
       go (compatibility.Refused r) f = in-placed r (f r refl)
 
   pub refine-placed : (marks : List ℕ) → Placed (LocatedIn (p ∷ q ∷ [])) (ofRefine (refineReply (refinementReply p q (length marks))))
   refine-placed marks = go (refinementReply p q (length marks)) (refine-located p q marks)
     where
-      go : (c : Refined) → ((r : Refusal) → c ≡ refined.Refused r → LocatedIn (p ∷ q ∷ []) r) → Placed (LocatedIn (p ∷ q ∷ [])) (ofRefine (refineReply c))
+      go : (c : Refined) → ((r : Refusal) → c ≡ refined.Refused r → LocatedIn (p ∷ q ∷ []) r)
+          → Placed (LocatedIn (p ∷ q ∷ [])) (ofRefine (refineReply c))
       go (refined.Decided v) f = nothing-placed (LocatedIn (p ∷ q ∷ []))
       go (refined.Refused r) f = in-placed r (f r refl)
 

@@ -1,8 +1,8 @@
 -- What a C caller may conclude from the last fields of a reply, whatever it lent (02, S-2).
 use mathlib.Core.Path.{_≡_}
 use mathlib.Core.Logic.{_↔_}
-use mathlib.Core.Bool.{Bool, cond}
-use Prim.Native.Nat.{ℕ, _≤_}
+use mathlib.Core.Bool.{cond}
+use Prim.Native.Nat.{_≤_}
 use lib.Dec.{T}
 use Rattle.theory.specs.declared.Location.the-variants.{Cell, Nowhere}
 use Rattle.theory.specs.declared.Refusal.{Refusal}
@@ -24,8 +24,8 @@ ofFollow r = record { number = r .number; table = r .table; placed = r .placed; 
 abbrev pub refusalIn : Status → Refusal
 refusalIn s = record { number = s .number; table = s .table; location = cond (s .placed) (Cell (s .state) (s .action)) Nowhere }
 
--- A cell is named exactly for numbers 1 to 6, both numbers are 0 where none is, and a refusal is located as it has to be.
-pub record Placed (Located : Refusal → Type 0) (s : Status) : Type 0 where
+-- A cell is named exactly for numbers 1 to 6, both numbers are 0 where none is, and the refusal says the right place.
+pub record Placed (Right : Refusal → Type 0) (s : Status) : Type 0 where
   pub exactly : T (s .placed) ↔ ((1 ≤ s .number) × (s .number ≤ 6))
   pub otherwise : ¬ T (s .placed) → (s .state ≡ 0) × (s .action ≡ 0)
-  pub located : 1 ≤ s .number → Located (refusalIn s)
+  pub located : 1 ≤ s .number → Right (refusalIn s)

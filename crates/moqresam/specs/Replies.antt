@@ -2,7 +2,7 @@
 use Prim.Native.Nat.{ℕ}
 use mathlib.Core.Bool.{Bool, true, false}
 use Rattle.automaton.specs.declared.Status.{Status}
-use Rattle.automaton.specs.Statuses.{statusOf, accepted}
+use Rattle.automaton.specs.Statuses.{statusOf, acceptedStatus}
 use Rattle.follower.specs.declared.Followed.{Followed}
 use Rattle.follower.specs.declared.Followed.the-variants as followed
 use Rattle.compatibility.specs.declared.Compatibility.{Compatibility}
@@ -13,7 +13,6 @@ use Rattle.moqresam.specs.declared.FitReply.{FitReply}
 use Rattle.moqresam.specs.declared.RefineReply.{RefineReply}
 use Rattle.moqresam.specs.declared.FollowReply.{FollowReply}
 
--- Fit: refused, the verdict is no and the rounds are 0.
 abbrev pub fitWith : Status → Bool → ℕ → FitReply
 fitWith s c n = record {
   number = s .number;
@@ -25,11 +24,11 @@ fitWith s c n = record {
   «cell_signal» = s .action;
 }
 
+-- Fit: not refused, number and table are 0; refused, the verdict is no and the rounds are 0.
 abbrev pub fitReply : Compatibility → FitReply
-fitReply (compatibility.Decided c n) = fitWith accepted c n
+fitReply (compatibility.Decided c n) = fitWith acceptedStatus c n
 fitReply (compatibility.Refused r) = fitWith (statusOf r) false 0
 
--- Refinement: refused, the verdict is no.
 abbrev pub refineWith : Status → Bool → RefineReply
 refineWith s v = record {
   number = s .number;
@@ -40,11 +39,11 @@ refineWith s v = record {
   «cell_signal» = s .action;
 }
 
+-- Refinement: the same.
 abbrev pub refineReply : Refined → RefineReply
-refineReply (refined.Decided v) = refineWith accepted v
+refineReply (refined.Decided v) = refineWith acceptedStatus v
 refineReply (refined.Refused r) = refineWith (statusOf r) false
 
--- The follower at a state: moved, the new state; "not now" or refused, the state as it was given.
 abbrev pub followWith : Status → Bool → ℕ → FollowReply
 followWith s m to = record {
   number = s .number;
@@ -56,9 +55,10 @@ followWith s m to = record {
   «cell_signal» = s .action;
 }
 
+-- The follower at a state: moved, the new state; "not now" or refused, the state as it was given.
 abbrev pub monitorReply : ℕ → Followed → FollowReply
-monitorReply state (followed.Moved to) = followWith accepted true to
-monitorReply state followed.NotNow = followWith accepted false state
+monitorReply state (followed.Moved to) = followWith acceptedStatus true to
+monitorReply state followed.NotNow = followWith acceptedStatus false state
 monitorReply state (followed.Refused r) = followWith (statusOf r) false state
 
 -- The state that the follower's record holds after a signal.

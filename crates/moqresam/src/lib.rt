@@ -91,7 +91,7 @@ fn fit_reply(c: Compatibility) -> FitReply
 {
     match c {
         Compatibility::Decided { compatible, rounds } => fit_with(
-            automaton::unplaced(0, 0),
+            automaton::accepted(),
             compatible,
             rounds,
         ),
@@ -103,7 +103,7 @@ fn refine_reply(c: Refined) -> RefineReply
     ensures { λ r. ⌜ r ≡ refineReply c ⌝ }
 {
     match c {
-        Refined::Decided(refines) => refine_with(automaton::unplaced(0, 0), refines),
+        Refined::Decided(refines) => refine_with(automaton::accepted(), refines),
         Refined::Refused(r) => refine_with(automaton::status_of(r), false),
     }
 }
@@ -112,8 +112,8 @@ fn follow_reply(state: usize, f: Followed) -> FollowReply
     ensures { λ r. ⌜ r ≡ monitorReply state f ⌝ }
 {
     match f {
-        Followed::Moved(to) => follow_with(automaton::unplaced(0, 0), true, to),
-        Followed::NotNow => follow_with(automaton::unplaced(0, 0), false, state),
+        Followed::Moved(to) => follow_with(automaton::accepted(), true, to),
+        Followed::NotNow => follow_with(automaton::accepted(), false, state),
         Followed::Refused(r) => follow_with(automaton::status_of(r), false, state),
     }
 }

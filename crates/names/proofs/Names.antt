@@ -65,10 +65,10 @@ module _ (set : ℕ) (names : List (List ℕ)) (e : anyOf set (λ (a : ℕ). not
 
 module _ (names : List (List ℕ)) (left : ℕ) (bound : left < 2 ^ 32) (some : ¬ (left ≡ 0)) (n : Named left names) where
   pub named-lowest : trailingZeros 32 left < length names
-  named-lowest = let k = low 32 left (omega arith) bound in n .entry _ (k .below) (k .in-set)
+  named-lowest = let k = low 32 left (omega arith) bound in n .entry _ (k .lowest .below) (k .lowest .passes)
 
   pub short-lowest : length (nameOf names (trailingZeros 32 left)) ≤ 16
-  short-lowest = let k = low 32 left (omega arith) bound in n .short _ (k .below) (k .in-set)
+  short-lowest = let k = low 32 left (omega arith) bound in n .short _ (k .lowest .below) (k .lowest .passes)
 
   in-rest : (a : ℕ) → T (has (left - 2 ^ trailingZeros 32 left) a) → T (has left a)
   in-rest a h = of-rest 32 left (omega arith) bound a h .0
@@ -161,7 +161,7 @@ module _ (names : List (List ℕ)) where
         forth : T (repeated s names) → T (anyOf rest (λ a. equal a t) || repeated rest names)
         forth h =
             let p = find s h in
-            let above : t < p .a = omega (arith, low 32 s some bound .least (p .b) (p .second), p .below) in
+            let above : t < p .a = omega (arith, low 32 s some bound .lowest .least (p .b) (p .second), p .below) in
             let higher : T (has rest (p .a)) = to-rest 32 s some bound (p .a) (p .first) (λ e. omega arith) in
             elim (ℕ-discrete (p .b) t) [
               | yes e ↦
@@ -178,7 +178,7 @@ module _ (names : List (List ℕ)) where
           | inl u ↦
               let (a, l, v) = any-at 32 (λ a. has rest a && equal a t) u in
               let (x, above) = of-rest 32 s some bound a (and-left (has rest a) (equal a t) v) in
-              found s a t l above x (low 32 s some bound .in-set) (and-right (has rest a) (equal a t) v)
+              found s a t l above x (low 32 s some bound .lowest .passes) (and-right (has rest a) (equal a t) v)
           | inr u ↦
               let p = find rest u in
               let member = of-rest 32 s some bound in

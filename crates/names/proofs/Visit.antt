@@ -55,7 +55,7 @@ module _ (w s : ℕ) (some : 0 < s) (bound : s < 2 ^ w) where
   pub those-lowest : those (has s) 0 w ≡ t ∷ those (has rest) 0 w
   those-lowest =
       let k = low w s some bound in
-      those-from (has s) (has rest) t (k .in-set) (k .least) (k .rest) 0 w (omega arith) (omega (arith, k .below))
+      those-from (has s) (has rest) t (k .lowest .passes) (k .lowest .least) (k .rest) 0 w (omega arith) (omega (arith, k .lowest .below))
 
   -- What the rest has: the members but the lowest, all above it.
   pub of-rest : (a : ℕ) → T (has rest a) → T (has s a) × (t < a)
@@ -64,7 +64,7 @@ module _ (w s : ℕ) (some : 0 < s) (bound : s < 2 ^ w) where
       let both : T (has s a && not (eqb a t)) = subst T (k .rest a) h in
       let m : T (has s a) = and-left (has s a) (not (eqb a t)) both in
       let d : ¬ (a ≡ t) = λ e. T-not (eqb a t) (and-right (has s a) (not (eqb a t)) both) (rw (eq-eqb a t e) tt) in
-      (m, omega (arith, k .least a m, d))
+      (m, omega (arith, k .lowest .least a m, d))
 
   pub to-rest : (a : ℕ) → T (has s a) → ¬ (a ≡ t) → T (has rest a)
   to-rest a h d = rw (low w s some bound .rest a, ne-eqb a t d) (rw (and-true (has s a)) h)
@@ -88,7 +88,7 @@ module _ (w s : ℕ) (some : 0 < s) (bound : s < 2 ^ w) where
       back h =
           let k = low w s some bound in
           elim (or-cases (f t) (any w (λ a. has rest a && f a)) h) [
-            | inl x ↦ at-any w (λ a. has s a && f a) t (k .below) (and-both (has s t) (f t) (k .in-set) x)
+            | inl x ↦ at-any w (λ a. has s a && f a) t (k .lowest .below) (and-both (has s t) (f t) (k .lowest .passes) x)
             | inr u ↦
                 let (a, l, b) = any-at w (λ a. has rest a && f a) u in
                 at-any w (λ a. has s a && f a) a l

@@ -8,7 +8,7 @@ use Rattle.theory.specs.declared.Refusal.{Refusal}
 use Rattle.theory.specs.declared.Checked.{Checked}
 use Rattle.theory.specs.declared.Checked.the-variants as checks
 use Rattle.automaton.specs.declared.Status.{Status}
-use Rattle.automaton.specs.Statuses.{unplaced, statusOf, accepted}
+use Rattle.automaton.specs.Statuses.{statusNowhere, statusOf, acceptedStatus}
 use Rattle.automaton.specs.declared.Mirrored.{Mirrored}
 use Rattle.automaton.specs.declared.Mirrored.the-variants as mirror
 use Rattle.follower.specs.declared.Followed.{Followed}
@@ -58,18 +58,18 @@ wholeReply s line verdict value a b = record {
 
 -- No table is given back.
 abbrev pub bareReply : ℕ → ℕ → ℕ → Bool → ℕ → Reply
-bareReply number table line verdict value = wholeReply (unplaced number table) line verdict value noTable noTable
+bareReply number table line verdict value = wholeReply (statusNowhere number table) line verdict value noTable noTable
 
 abbrev pub refusedReply : Refusal → ℕ → Reply
 refusedReply r value = wholeReply (statusOf r) 0 false value noTable noTable
 
 -- One table is.
 abbrev pub headedReply : Bool → ℕ → Automaton → Reply
-headedReply verdict value a = wholeReply accepted 0 verdict value a noTable
+headedReply verdict value a = wholeReply acceptedStatus 0 verdict value a noTable
 
 -- Two are.
 abbrev pub bothReply : Automaton → Automaton → Reply
-bothReply a b = wholeReply accepted 0 false 0 a b
+bothReply a b = wholeReply acceptedStatus 0 false 0 a b
 
 -- ---- one table
 

@@ -37,7 +37,7 @@ pub struct Reply {
     pub initial_2: usize,
     pub inputs_2: u32,
     pub outputs_2: u32,
-    // Whether a cell of the table is at fault, and which.
+    // Whether the refusal names a cell of the table, and which: document 02's place.
     pub placed: bool,
     pub cell_state: usize,
     pub cell_signal: usize,
@@ -84,7 +84,7 @@ pub fn bare(number: u32, table: u32, line: usize, verdict: bool, value: usize) -
     ensures { λ r. ⌜ r ≡ bareReply number table line verdict value ⌝ }
 {
     whole(
-        automaton::unplaced(number, table),
+        automaton::status_nowhere(number, table),
         line,
         verdict,
         value,
@@ -104,14 +104,14 @@ fn refused(r: Refusal, value: usize) -> Reply
 fn headed(verdict: bool, value: usize, a: Automaton) -> Reply
     ensures { λ r. ⌜ r ≡ headedReply verdict value a ⌝ }
 {
-    whole(automaton::unplaced(0, 0), 0, verdict, value, a, none())
+    whole(automaton::accepted(), 0, verdict, value, a, none())
 }
 
 // Two tables are.
 fn both(a: Automaton, b: Automaton) -> Reply
     ensures { λ r. ⌜ r ≡ bothReply a b ⌝ }
 {
-    whole(automaton::unplaced(0, 0), 0, false, 0, a, b)
+    whole(automaton::accepted(), 0, false, 0, a, b)
 }
 
 pub fn judged(c: Checked) -> Reply

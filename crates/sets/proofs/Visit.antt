@@ -11,14 +11,13 @@ use lib.Pow.{pow-mono}
 use borrow.Author.Tests.{ne-eqb}
 use Rattle.theory.specs.Bounded.{count, digit}
 use Rattle.theory.specs.Sets.{has}
+use Rattle.theory.proofs.Lowest.{Lowest}
 use Rattle.theory.proofs.Sets.{low as low-digit, has-suc}
 
 -- What the trailing zeros t of a set with a member are.
 pub record Low (w s t : ℕ) : Type 0 where
-  pub below : t < w
+  pub lowest : Lowest w (has s) t
   pub within : 2 ^ t ≤ s
-  pub in-set : T (has s t)
-  pub least : (a : ℕ) → T (has s a) → t ≤ a
   pub rest : (a : ℕ) → has (s - 2 ^ t) a ≡ (has s a && not (eqb a t))
 
 has-zero : (s : ℕ) → has s 0 ≡ eqb (s % 2) 1
@@ -27,10 +26,8 @@ has-zero s = ap (λ x. eqb (x % 2) 1) (div-one s)
 -- A set with the lowest digit 1: its lowest member is 0.
 low-odd : (w s : ℕ) → s % 2 ≡ 1 → Low (suc w) s 0
 low-odd w s e = record {
-  below = omega arith;
+  lowest = record { below = omega arith; passes = rw (has-zero s, e) tt; least = λ a h. omega arith };
   within = omega arith;
-  in-set = rw (has-zero s, e) tt;
-  least = λ a h. omega arith;
   rest = without;
 }
   where
@@ -43,16 +40,14 @@ low-odd w s e = record {
 -- A set with the lowest digit 0: one more than the lowest member of its half.
 low-even : (w s t : ℕ) → s % 2 ≡ 0 → Low w (s / 2) t → Low (suc w) s (suc t)
 low-even w s t e k = record {
-  below = omega (arith, k .below);
+  lowest = record { below = omega (arith, k .lowest .below); passes = rw (has-suc s t) (k .lowest .passes); least = above };
   within = omega (arith, k .within, pow-suc 2 t);
-  in-set = rw (has-suc s t) (k .in-set);
-  least = above;
   rest = without;
 }
   where
     above : (a : ℕ) → T (has s a) → suc t ≤ a
     above zero h = absurd (rw (has-zero s, e) at h)
-    above (suc a) h = omega (arith, k .least a (rw (has-suc s a) at h))
+    above (suc a) h = omega (arith, k .lowest .least a (rw (has-suc s a) at h))
 
     half : (s - 2 ^ suc t) / 2 ≡ s / 2 - 2 ^ t
     half = omega (arith, k .within, pow-suc 2 t)

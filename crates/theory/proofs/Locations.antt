@@ -1,15 +1,14 @@
 -- Every refusal of a call on tables says where (02, S-2): a law over its list of checks, made of 1 to 6 of tables and of checks that name no cell.
 use mathlib.Core.Path.{_≡_, refl, sym, subst, ap, _∙_}
-use mathlib.Core.Logic.{_↔_, _⊎_, inl, inr}
+use mathlib.Core.Logic.{_↔_, inl, inr}
 use mathlib.Core.Bool.{Bool, true, false, not, _&&_, cond}
 use mathlib.Core.List.{List, [], _∷_, _++_}
 use mathlib.Core.Option.{some}
-use Prim.Native.Nat.{ℕ, _+_, _*_, _/_, _%_, _<_, _≤_}
+use Prim.Native.Nat.{ℕ, _+_, _*_, _/_, _%_, _<_}
 use native.Mathlib.Omega.{arith}
 use native.Mathlib.Nat.{div-add-mod'}
 use lib.Arith.{digits-lt, digits-mod}
 use lib.Dec.{T, eqb, ltb, leb, ltb→lt, leb→le, T-not, not-T}
-use lib.ListN.{getD}
 use borrow.Author.Tests.{lt-ltb, le-leb, eq-eqb, ne-eqb}
 use Rattle.theory.specs.declared.Location.{Location}
 use Rattle.theory.specs.declared.Location.the-variants.{Cell, Nowhere}
@@ -18,12 +17,12 @@ use Rattle.theory.specs.declared.Checked.{Checked}
 use Rattle.theory.specs.declared.Checked.the-variants.{Accepted, Refused}
 use Rattle.theory.specs.Bounded.{any, lowest}
 use Rattle.theory.specs.Table.{Table, cellAt}
-use Rattle.theory.specs.Checks.{Check, refuseAt, first, unlessRefused, declared, stray, isStray, isUndeclared, cellOf, check1, check2, check3, check4, check5, check6, tableChecks, monitorChecks, eachTable}
+use Rattle.theory.specs.Checks.{Check, first, unlessRefused, declared, stray, isStray, isUndeclared, cellOf, check1, check2, check3, check4, check5, check6, tableChecks, monitorChecks, eachTable}
 use Rattle.theory.specs.Locations.{Stray, Undeclared, Precedes, FirstBad, NoneBad, called, Located, of-table, of-five, of-six, nowhere, LocatedIn, LocatedAt}
 use Rattle.theory.proofs.Tests.{and-left, and-right, and-both}
 use Rattle.theory.proofs.Bounded.{at-any}
 use Rattle.theory.proofs.Checks.{orElse, first-append}
-use Rattle.theory.proofs.Lowest.{Lowest, lowest-is}
+use Rattle.theory.proofs.Lowest.{lowest-is}
 
 -- ---- any list of checks
 
@@ -118,7 +117,7 @@ module _ (t : Table) where
           in-states = omega (arith, w .below);
           in-actions = omega arith;
           bad = says (k / 32) (k % 32) (omega arith) .0 (rw (div-add-mod' k 32) (w .passes));
-          before = λ s a l p b. w .before (s * 32 + a) (index-before s a k l p) (says s a l .1 b);
+          before = λ s a l p b. omega (arith, index-before s a k l p, w .least (s * 32 + a) (says s a l .1 b));
         }
 
     pub none-bad : ¬ T (any (n * 32) bad) → NoneBad t Bad

@@ -85,7 +85,7 @@ module _ (n : ℕ) (cells : List ℕ) (names : List (List ℕ)) where
   unfolding stepsBy keep stepRow
   steps-lowest state left bound more =
       let s = trailingZeros 32 left in
-      rw (those-lowest 32 left (omega arith) bound, lt-ltb s 32 (low 32 left (omega arith) bound .below))
+      rw (those-lowest 32 left (omega arith) bound, lt-ltb s 32 (low 32 left (omega arith) bound .lowest .below))
       (go s (ltb (cellAt t state s) n) (keep (hasStep t state) (those (has (left - 2 ^ s)) 0 32)))
     where
       go : (s : ℕ) (b : Bool) (l : List ℕ) → printed (map (stepRow t names state) (cond (isSome (cond b (some (cellAt t state s)) none)) (s ∷ l) l))
@@ -98,7 +98,7 @@ module _ (n : ℕ) (cells : List ℕ) (names : List (List ℕ)) where
       → (left′ : ℕ) → left′ ≡ left - 2 ^ trailingZeros 32 left
       → stepsBy state left ≡ cellText n state (nameOf names s) (getD cells (first + s) 0) ++ stepsBy state left′
   steps-next state first left s f bound more k e q left′ g =
-      let below : trailingZeros 32 left < 32 = low 32 left (omega arith) bound .below in
+      let below : trailingZeros 32 left < 32 = low 32 left (omega arith) bound .lowest .below in
       rw (f, q, g, any-default cells (state * 32 + trailingZeros 32 left) 0 65535 (omega arith)) (steps-lowest state left bound more)
 
   pub steps-none : (state left : ℕ) → left ≡ 0 → stepsBy state left ≡ []

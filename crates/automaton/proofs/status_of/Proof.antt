@@ -9,8 +9,8 @@ enum-known-location c = search needs
 enum-told : tie.Need-enum-told
 enum-told c = search needs
 
-unplaced-requires : tie.Need-unplaced-requires
-unplaced-requires c κs = search needs
+status-nowhere-requires : tie.Need-status-nowhere-requires
+status-nowhere-requires c κs = search needs
 
 returns : tie.Need-returns
 returns c = search (status-cell, needs)
@@ -19,4 +19,4 @@ returns-2 : tie.Need-returns-2
 returns-2 c = search (status-nowhere, needs)
 
 pub status-of-spec : {M : Type 1} → statement M
-status-of-spec = tie.close (tie.spec enum-known-location enum-told unplaced-requires returns returns-2)
+status-of-spec = tie.close (tie.spec enum-known-location enum-told status-nowhere-requires returns returns-2)

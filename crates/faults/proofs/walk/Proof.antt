@@ -4,7 +4,7 @@ use Prim.Native.Nat.{_+_, _*_, _/_, _-_, _≤_, min}
 use native.Mathlib.Omega.{arith}
 use lib.ListN.{length}
 use Rattle.theory.specs.Bounded.{any}
-use Rattle.theory.proofs.Lowest.{reach}
+use Rattle.theory.proofs.Lowest.{none-same}
 use Rattle.faults.specs.Cells.{faultAt, SoundBefore}
 use Rattle.faults.proofs.Rows.{sound-same, walk-on, walk-found, walk-end}
 use Rattle.faults.proofs.Sound.{limits-many, pass-row, pass-sound}
@@ -54,7 +54,7 @@ earlier-requires c κs = search needs
 loop-holds : tie.Need-loop-holds Inv-loop μ-loop Inv-rows μ-rows
 loop-holds c =
     let i = c .before .before .before .before .rows .inv in
-    (omega arith, omega arith, omega arith, omega (arith, c .earlier .ensures), reach _ _ _ (i .4) (omega arith), sound-same _ _ _ _ _ (sym (c .earlier .ensures)) (i .5))
+    (omega arith, omega arith, omega arith, omega (arith, c .earlier .ensures), none-same _ _ _ (i .4) (omega arith), sound-same _ _ _ _ _ (sym (c .earlier .ensures)) (i .5))
 
 mul-k : tie.Need-mul-k Inv-loop μ-loop Inv-rows μ-rows
 mul-k c = search needs
@@ -89,7 +89,7 @@ rows-less-2 c = search needs
 rows-again-2 : tie.Need-rows-again-2 Inv-loop μ-loop Inv-rows μ-rows
 rows-again-2 c =
     let i = c .before .loop .inv in
-    (omega arith, omega arith, omega arith, omega arith, reach _ _ _ (i .4) (omega arith), sound-same _ _ _ _ _ (omega arith) (i .5))
+    (omega arith, omega arith, omega arith, omega arith, none-same _ _ _ (i .4) (omega arith), sound-same _ _ _ _ _ (omega arith) (i .5))
 
 returns : tie.Need-returns Inv-loop μ-loop Inv-rows μ-rows
 returns c = record { first = search (walk-end, needs); before = sound-same _ _ _ _ _ (omega arith) (c .before .rows .inv .5) }

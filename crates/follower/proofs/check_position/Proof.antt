@@ -1,4 +1,4 @@
-use Rattle.follower.proofs.Checks.{place-shape, place-11, place-12, place-ok}
+use Rattle.follower.proofs.Checks.{position-shape, position-11, position-12, position-ok}
 use borrow.Author.Needs.{needs}
 use Rattle.follower.proofs.check_position.Statement.{statement}
 use Rattle.follower.proofs.check_position.Tie as tie
@@ -13,13 +13,13 @@ enum-told-2 : tie.Need-enum-told-2
 enum-told-2 c = search needs
 
 returns : tie.Need-returns
-returns c = search (place-shape, needs)
+returns c = search (position-shape, needs)
 
 refuse-requires : tie.Need-refuse-requires
 refuse-requires c κs = search needs
 
 returns-2 : tie.Need-returns-2
-returns-2 c = search (place-11, needs)
+returns-2 c = search (position-11, needs)
 
 declared-requires : tie.Need-declared-requires
 declared-requires c κs = search needs
@@ -31,10 +31,10 @@ refuse-requires-2 : tie.Need-refuse-requires-2
 refuse-requires-2 c κs = search needs
 
 returns-3 : tie.Need-returns-3
-returns-3 c = search (place-12, needs)
+returns-3 c = search (position-12, needs)
 
 returns-4 : tie.Need-returns-4
-returns-4 c = search (place-ok, needs)
+returns-4 c = search (position-ok, needs)
 
 pub check-position-spec : {M : Type 1} → statement M
 check-position-spec =

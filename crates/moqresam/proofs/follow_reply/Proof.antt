@@ -6,8 +6,8 @@ use Rattle.moqresam.proofs.follow_reply.Tie as tie
 enum-known-f : tie.Need-enum-known-f
 enum-known-f c = search needs
 
-unplaced-requires : tie.Need-unplaced-requires
-unplaced-requires c κs = search needs
+accepted-requires : tie.Need-accepted-requires
+accepted-requires c κs = search needs
 
 follow-with-requires : tie.Need-follow-with-requires
 follow-with-requires c κs = search needs
@@ -15,8 +15,8 @@ follow-with-requires c κs = search needs
 enum-told : tie.Need-enum-told
 enum-told c = search needs
 
-unplaced-requires-2 : tie.Need-unplaced-requires-2
-unplaced-requires-2 c κs = search needs
+accepted-requires-2 : tie.Need-accepted-requires-2
+accepted-requires-2 c κs = search needs
 
 follow-with-requires-2 : tie.Need-follow-with-requires-2
 follow-with-requires-2 c κs = search needs
@@ -44,10 +44,10 @@ follow-reply-spec =
     tie.close
     (tie.spec
     enum-known-f
-    unplaced-requires
+    accepted-requires
     follow-with-requires
     enum-told
-    unplaced-requires-2
+    accepted-requires-2
     follow-with-requires-2
     enum-known-f-2
     status-of-requires

@@ -3,8 +3,8 @@ use borrow.Author.Needs.{needs}
 use Rattle.replies.proofs.bare.Statement.{statement}
 use Rattle.replies.proofs.bare.Tie as tie
 
-unplaced-requires : tie.Need-unplaced-requires
-unplaced-requires c κs = search needs
+status-nowhere-requires : tie.Need-status-nowhere-requires
+status-nowhere-requires c κs = search needs
 
 none-requires : tie.Need-none-requires
 none-requires c κs = search needs
@@ -20,4 +20,4 @@ returns c = search (made-of, needs)
 
 pub bare-spec : {M : Type 1} → statement M
 bare-spec =
-    tie.close (tie.spec unplaced-requires none-requires none-requires-2 whole-requires returns)
+    tie.close (tie.spec status-nowhere-requires none-requires none-requires-2 whole-requires returns)

@@ -3,8 +3,8 @@ use borrow.Author.Needs.{needs}
 use Rattle.replies.proofs.both.Statement.{statement}
 use Rattle.replies.proofs.both.Tie as tie
 
-unplaced-requires : tie.Need-unplaced-requires
-unplaced-requires c κs = search needs
+accepted-requires : tie.Need-accepted-requires
+accepted-requires c κs = search needs
 
 whole-requires : tie.Need-whole-requires
 whole-requires c κs = search needs
@@ -13,4 +13,4 @@ returns : tie.Need-returns
 returns c = search (made-of, needs)
 
 pub both-spec : {M : Type 1} → statement M
-both-spec = tie.close (tie.spec unplaced-requires whole-requires returns)
+both-spec = tie.close (tie.spec accepted-requires whole-requires returns)

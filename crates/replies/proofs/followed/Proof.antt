@@ -1,5 +1,5 @@
 use Rattle.replies.specs.Replies.{followed}
-use Rattle.theory.proofs.Checks.{told-at}
+use Rattle.replies.proofs.Laws.{told-at}
 use borrow.Author.Needs.{needs}
 use Rattle.replies.proofs.followed.Statement.{statement}
 use Rattle.replies.proofs.followed.Tie as tie

@@ -3,8 +3,8 @@ use borrow.Author.Needs.{needs}
 use Rattle.replies.proofs.headed.Statement.{statement}
 use Rattle.replies.proofs.headed.Tie as tie
 
-unplaced-requires : tie.Need-unplaced-requires
-unplaced-requires c κs = search needs
+accepted-requires : tie.Need-accepted-requires
+accepted-requires c κs = search needs
 
 none-requires : tie.Need-none-requires
 none-requires c κs = search needs
@@ -16,4 +16,4 @@ returns : tie.Need-returns
 returns c = search (made-of, needs)
 
 pub headed-spec : {M : Type 1} → statement M
-headed-spec = tie.close (tie.spec unplaced-requires none-requires whole-requires returns)
+headed-spec = tie.close (tie.spec accepted-requires none-requires whole-requires returns)

@@ -1,5 +1,5 @@
 use Rattle.replies.specs.Replies.{judged}
-use Rattle.theory.proofs.Checks.{told}
+use Rattle.replies.proofs.Laws.{told}
 use borrow.Author.Needs.{needs}
 use Rattle.replies.proofs.judged.Statement.{statement}
 use Rattle.replies.proofs.judged.Tie as tie

@@ -1,5 +1,5 @@
 use Rattle.replies.specs.Replies.{aloneRead}
-use Rattle.theory.proofs.Checks.{told}
+use Rattle.replies.proofs.Laws.{told}
 use borrow.Author.Needs.{needs}
 use Rattle.replies.proofs.read_alone.Statement.{statement}
 use Rattle.replies.proofs.read_alone.Tie as tie

@@ -1,5 +1,5 @@
 use Rattle.replies.specs.Replies.{togetherRead}
-use Rattle.theory.proofs.Checks.{told}
+use Rattle.replies.proofs.Laws.{told}
 use borrow.Author.Needs.{needs}
 use Rattle.replies.proofs.read_together.Statement.{statement}
 use Rattle.replies.proofs.read_together.Tie as tie

@@ -1,5 +1,5 @@
 use Rattle.replies.specs.Replies.{refined}
-use Rattle.theory.proofs.Checks.{told}
+use Rattle.replies.proofs.Laws.{told}
 use borrow.Author.Needs.{needs}
 use Rattle.replies.proofs.refined.Statement.{statement}
 use Rattle.replies.proofs.refined.Tie as tie

@@ -18,7 +18,7 @@ returns : tie.Need-returns
 returns c = search needs
 
 shl-result : tie.Need-shl-result
-shl-result c = at c .below
+shl-result c = at c .lowest .below
 
 sub-result : tie.Need-sub-result
 sub-result c = rw (one c) (at c .within)
