@@ -99,7 +99,7 @@ module _ (t : Table) where
   abbrev n : ℕ
   n = t .header .states
 
-  -- Below the bound of both digits the order of the indices is that of states, then signals.
+  -- A cell that precedes another has the lower index.
   index-before : (s a k : ℕ) → a < 32 → Precedes s a (k / 32) (k % 32) → s * 32 + a < k
   index-before s a k l (inl h) = omega arith
   index-before s a k l (inr (e, h)) = omega arith
