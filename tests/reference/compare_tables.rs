@@ -89,8 +89,12 @@ pub fn run(seed: u64, count: u64, only: Option<u64>) -> bool {
     if only.is_none() {
         compare_chains(&mut tally, seed, count);
     }
-    if only.is_none() && count >= 50_000 {
+    if only.is_none() && count >= 20_000 {
         ask_for_all_outcomes(&mut tally);
+    }
+    // The rarest place comes about once in 6,000 cases.
+    if only.is_none() && count >= 50_000 {
+        ask_for_all_places(&mut tally);
     }
     tally.finish()
 }
@@ -339,13 +343,19 @@ fn ask_for_all_outcomes(tally: &mut Tally) {
             tally.must_have_seen(&dropping(call, true));
         }
         for (number, table) in refusals(call) {
-            let refusal = outcome(call, number, table, false);
-            tally.must_have_seen(&refusal);
-            places::ask(tally, &refusal, number, is_follower(call));
+            tally.must_have_seen(&outcome(call, number, table, false));
         }
     }
     for cells in [1, 2, 5] {
         tally.must_have_seen(mended(cells));
+    }
+}
+
+fn ask_for_all_places(tally: &mut Tally) {
+    for call in DRAWN.iter().copied() {
+        for (number, table) in refusals(call) {
+            places::ask(tally, &outcome(call, number, table, false), number, is_follower(call));
+        }
     }
 }
 

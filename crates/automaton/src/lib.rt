@@ -1,5 +1,5 @@
-// Calls on one interface automaton (document 01: table): judging, mirroring and clearing; and the checks that the follower and the calls on two begin
-// with.
+// Calls on one interface automaton (document 01: table): judging, mirroring and clearing; the checks that the follower and the calls on two begin with;
+// and refusals: all are made here, and told in numbers for C.
 ghost use mathlib.Core.Path.{_≡_};
 ghost use mathlib.Core.Bool.{_&&_};
 ghost use Prim.Native.Nat.{ℕ};
