@@ -4,12 +4,12 @@ ghost use Prim.Native.Nat.{_≤_};
 ghost use lib.ListN.{length};
 ghost use Rattle.text.specs.Reading.{readAlone, readBoth, cellsAlone, cellsFirst, cellsSecond};
 ghost use Rattle.text.specs.Lookup.{lookup, lookupNumber, lookupAlone, lookupNumberAlone};
-ghost use Rattle.text.specs.Writing.{Written};
+ghost use Rattle.text.specs.Writing.{writerBytes};
 ghost use Rattle.reader.specs.Replies.{aloneReply, togetherReply};
-ghost use Rattle.emit.specs.Buffer.{stored};
+ghost use Rattle.emit.specs.Buffer.{after, stored};
 ghost use Rattle.names.specs.Names.{texts};
 ghost use Rattle.writer.specs.Replies.{writerReply};
-ghost use Rattle.report.specs.Report.{Told};
+ghost use Rattle.report.specs.Report.{reportText, reportBuffers};
 ghost use Rattle.replies.specs.Replies.{aloneRead, togetherRead, named, written};
 ghost use Rattle.harness.specs.Tables.{tableOf};
 use replies::Reply;
@@ -74,7 +74,7 @@ pub extern "C" fn harness_write(
     out: &mut [u8],
 ) -> Reply
     ensures { λ r. ⌜ r ≡ written (writerReply (tableOf states initial inputs outputs (now (cells .entry))) (now (name .entry)) (texts (now (names .entry))) (length (now (out .entry)))) ⌝ }
-    ensures { λ r. ⌜ Written (tableOf states initial inputs outputs (now (cells .entry))) (now (name .entry)) (texts (now (names .entry))) (now (out .entry)) (now (out .exit)) ⌝ }
+    ensures { λ r. ⌜ now (out .exit) ≡ writerBytes (tableOf states initial inputs outputs (now (cells .entry))) (now (name .entry)) (texts (now (names .entry))) (now (out .entry)) ⌝ }
 {
     let a = Automaton {
         states,
@@ -96,7 +96,9 @@ pub extern "C" fn harness_report<'a>(
     flags: &mut [u8],
     out: &mut [u8],
 ) -> usize
-    ensures { λ r. ⌜ Told (now (m .entry)) (now (p .entry)) (now (cm .entry)) (now (cp .entry)) (now (cells .entry)) (now (flags .entry)) (now (out .entry)) r (now (cm .exit)) (now (cp .exit)) (now (cells .exit)) (now (flags .exit)) (now (out .exit)) ⌝ }
+    ensures { λ r. ⌜ r ≡ after (length (now (out .entry))) 0 (reportText (now (m .entry)) (now (p .entry)) (now (cm .entry)) (now (cp .entry)) (now (cells .entry)) (now (flags .entry))) ⌝ }
+    ensures { λ r. ⌜ now (out .exit) ≡ stored (now (out .entry)) 0 (reportText (now (m .entry)) (now (p .entry)) (now (cm .entry)) (now (cp .entry)) (now (cells .entry)) (now (flags .entry))) ⌝ }
+    ensures { λ _. ⌜ (now (cm .exit), now (cp .exit), now (cells .exit), now (flags .exit)) ≡ reportBuffers (now (m .entry)) (now (p .entry)) (now (cm .entry)) (now (cp .entry)) (now (cells .entry)) (now (flags .entry)) ⌝ }
     ensures { λ r. ⌜ r ≤ 65608 ⌝ }
 {
     report::report(m, p, cm, cp, cells, flags, out)

@@ -6,7 +6,7 @@ use lib.ListN.{length}
 use Rattle.theory.specs.Bounded.{tabulate}
 use Rattle.theory.specs.Table.{Table}
 use Rattle.text.specs.Lookup.{lookup}
-use Rattle.text.specs.Writing.{Written}
+use Rattle.text.specs.Writing.{writerBytes}
 use Rattle.writer.specs.declared.Printed.{Printed}
 use Rattle.writer.specs.Replies.{writerReply}
 use Rattle.labels.specs.Names.{sequencerWord, signalNames}
@@ -30,7 +30,7 @@ module _ (m p n0 n1 n2 n3 n4 n5 n6 n7 n8 n9 n10 n11 n12 n13 n14 n15 n16 n17 n18 
 
   -- What the writer says and leaves with these names.
   pub written-named : (t : Table) (k : Printed) (bytes bytes′ : List ℕ)
-      → (k ≡ writerReply t sequencerWord lent (length bytes)) × Written t sequencerWord lent bytes bytes′
-      → (k ≡ writerReply t sequencerWord (signalNames m p) (length bytes)) × Written t sequencerWord (signalNames m p) bytes bytes′
+      → (k ≡ writerReply t sequencerWord lent (length bytes)) × (bytes′ ≡ writerBytes t sequencerWord lent bytes)
+      → (k ≡ writerReply t sequencerWord (signalNames m p) (length bytes)) × (bytes′ ≡ writerBytes t sequencerWord (signalNames m p) bytes)
   written-named t k bytes bytes′ w =
-      subst (λ names. (k ≡ writerReply t sequencerWord names (length bytes)) × Written t sequencerWord names bytes bytes′) names-told w
+      subst (λ names. (k ≡ writerReply t sequencerWord names (length bytes)) × (bytes′ ≡ writerBytes t sequencerWord names bytes)) names-told w

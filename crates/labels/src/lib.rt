@@ -2,7 +2,7 @@
 ghost use mathlib.Core.Path.{_≡_};
 ghost use lib.ListN.{length};
 ghost use Rattle.theory.specs.Table.{table};
-ghost use Rattle.text.specs.Writing.{Written};
+ghost use Rattle.text.specs.Writing.{writerBytes};
 ghost use Rattle.writer.specs.Replies.{writerReply};
 ghost use Rattle.labels.specs.Names.{sequencerWord, signalNames};
 use theory::Automaton;
@@ -17,7 +17,7 @@ pub fn write_text<'a>(
     text: &mut [u8],
 ) -> Printed
     ensures { λ r. ⌜ r ≡ writerReply (table header (now (cells .entry))) sequencerWord (signalNames (now (m .entry)) (now (p .entry))) (length (now (text .entry))) ⌝ }
-    ensures { λ r. ⌜ Written (table header (now (cells .entry))) sequencerWord (signalNames (now (m .entry)) (now (p .entry))) (now (text .entry)) (now (text .exit)) ⌝ }
+    ensures { λ r. ⌜ now (text .exit) ≡ writerBytes (table header (now (cells .entry))) sequencerWord (signalNames (now (m .entry)) (now (p .entry))) (now (text .entry)) ⌝ }
 {
     let names = [
         lookup::name(m, p, 0),

@@ -1,26 +1,38 @@
 -- The program by what came of its two files.
-use mathlib.Core.Path.{_≡_, refl}
+use mathlib.Core.Path.{_≡_}
 use mathlib.Core.List.{List}
-use Prim.Native.Nat.{ℕ}
-use lib.ListN.{take}
-use Rattle.emit.proofs.Buffer.{Puts}
+use Prim.Native.Nat.{ℕ, _≤_}
+use native.Mathlib.Omega.{arith}
+use lib.ListN.{length, take}
+use Rattle.emit.specs.Buffer.{stored, after}
 use Rattle.files.specs.declared.File.{File}
 use Rattle.files.specs.declared.File.the-variants.{Bytes, Unreadable}
 use Rattle.printout.specs.Lines.{refusalText}
-use Rattle.report.specs.Report.{Told}
-use Rattle.program.specs.Run.{Unread, Ran}
+use Rattle.report.specs.Report.{Buffers, reportText, reportBuffers}
+use Rattle.program.specs.Run.{programText, programBuffers}
+
+-- A text that was put, with a limit to where it ends, and what is left in the four buffers.
+abbrev Ends : List ℕ → ℕ → List ℕ → List ℕ → Buffers → Buffers → Type 0
+Ends bytes end bytes′ text left buffers =
+    (end ≡ after (length bytes) 0 text) × ((bytes′ ≡ stored bytes 0 text) × ((left ≡ buffers) × (end ≤ 65608)))
+
+-- What a refusal's line gives: it is short.
+abbrev Line : ℕ → List ℕ → ℕ → List ℕ → Type 0
+Line file bytes end bytes′ = (end ≡ after (length bytes) 0 (refusalText file 24 0)) × ((bytes′ ≡ stored bytes 0 (refusalText file 24 0)) × (end ≤ 26))
 
 module _ (first second : File) (m p cm cp cells flags out : List ℕ) (e : ℕ) (out′ : List ℕ) where
-  unread : (file : ℕ) → Puts out 0 (refusalText file 24 0) e out′ → Unread file cm cp cells flags out e cm cp cells flags out′
-  unread file (u, v) = record { text = v; ends = u; module-kept = refl; plan-kept = refl; cells-kept = refl; flags-kept = refl }
+  abbrev Runs : Buffers → Type 0
+  Runs left = Ends out e out′ (programText first second m p cm cp cells flags) left (programBuffers first second m p cm cp cells flags)
 
-  pub first-unread : first ≡ Unreadable → Puts out 0 (refusalText 1 24 0) e out′ → Ran first second m p cm cp cells flags out e cm cp cells flags out′
-  first-unread a w = rw a (unread 1 w)
+  pub first-unread : first ≡ Unreadable → Line 1 out e out′ → Runs (cm, cp, cells, flags)
+  unfolding programText programBuffers
+  first-unread a (u, (v, h)) = (rw a u, (rw a v, (rw a, omega arith)))
 
-  pub second-unread : (i : ℕ) → first ≡ Bytes i → second ≡ Unreadable → Puts out 0 (refusalText 2 24 0) e out′
-      → Ran first second m p cm cp cells flags out e cm cp cells flags out′
-  second-unread i a b w = rw (a, b) (unread 2 w)
+  pub second-unread : (i : ℕ) → first ≡ Bytes i → second ≡ Unreadable → Line 2 out e out′ → Runs (cm, cp, cells, flags)
+  unfolding programText programBuffers
+  second-unread i a b (u, (v, h)) = (rw (a, b) u, (rw (a, b) v, (rw (a, b), omega arith)))
 
-  pub both-read : (i k : ℕ) → first ≡ Bytes i → second ≡ Bytes k → (m′ p′ : List ℕ) → m′ ≡ take i m → p′ ≡ take k p → (cm′ cp′ cells′ flags′ : List ℕ)
-      → Told m′ p′ cm cp cells flags out e cm′ cp′ cells′ flags′ out′ → Ran first second m p cm cp cells flags out e cm′ cp′ cells′ flags′ out′
-  both-read i k a b m′ p′ em ep cm′ cp′ cells′ flags′ t = rw (a, b, ← em, ← ep) t
+  pub both-read : (i k : ℕ) → first ≡ Bytes i → second ≡ Bytes k → (m′ p′ : List ℕ) → m′ ≡ take i m → p′ ≡ take k p → (left : Buffers)
+      → Ends out e out′ (reportText m′ p′ cm cp cells flags) left (reportBuffers m′ p′ cm cp cells flags) → Runs left
+  unfolding programText programBuffers
+  both-read i k a b m′ p′ em ep left w = rw (a, b, ← em, ← ep) w

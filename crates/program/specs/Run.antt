@@ -1,26 +1,24 @@
 -- What the program prints for two files, and what it leaves in the lent buffers (01, "The program and one full run"). m and p are the bytes
--- read of module and plan, cm and cp the cells of the two.
-use mathlib.Core.Path.{_≡_}
+-- read of module and plan, cm and cp the cells of the two, cells and flags the buffers for the result.
 use mathlib.Core.List.{List}
 use Prim.Native.Nat.{ℕ}
-use lib.ListN.{length, take}
-use Rattle.emit.specs.Buffer.{stored, after}
+use lib.ListN.{take}
 use Rattle.files.specs.declared.File.{File}
 use Rattle.files.specs.declared.File.the-variants.{Bytes, Unreadable}
 use Rattle.printout.specs.Lines.{refusalText}
-use Rattle.report.specs.Report.{Told}
+use Rattle.report.specs.Report.{Buffers, reportText, reportBuffers}
 
--- A file that cannot be read: one line with 24, and nothing else is touched.
-pub record Unread (file : ℕ) (cm cp cells flags bytes : List ℕ) (end : ℕ) (cm′ cp′ cells′ flags′ bytes′ : List ℕ) : Type 0 where
-  pub text : bytes′ ≡ stored bytes 0 (refusalText file 24 0)
-  pub ends : end ≡ after (length bytes) 0 (refusalText file 24 0)
-  pub module-kept : cm′ ≡ cm
-  pub plan-kept : cp′ ≡ cp
-  pub cells-kept : cells′ ≡ cells
-  pub flags-kept : flags′ ≡ flags
+-- By what came of the two files: the first that cannot be read counts; else how many bytes were read of each.
+abbrev pub byFiles : {A : Type 0} → File → File → (ℕ → A) → (ℕ → ℕ → A) → A
+byFiles Unreadable second unreadable read = unreadable 1
+byFiles (Bytes i) Unreadable unreadable read = unreadable 2
+byFiles (Bytes i) (Bytes j) unreadable read = read i j
 
--- 24 for the first unreadable one before any text check. Of a file that was read, the text is as many of the lent bytes as were read.
-abbrev pub Ran : File → File → (m p cm cp cells flags bytes : List ℕ) (end : ℕ) (cm′ cp′ cells′ flags′ bytes′ : List ℕ) → Type 0
-Ran Unreadable second m p = Unread 1
-Ran (Bytes i) Unreadable m p = Unread 2
-Ran (Bytes i) (Bytes j) m p = Told (take i m) (take j p)
+module _ (first second : File) (m p cm cp cells flags : List ℕ) where
+  -- All that is printed: one line with 24, before any text check; or the report.
+  unfoldable pub programText : List ℕ
+  programText = byFiles first second (λ file. refusalText file 24 0) (λ i j. reportText (take i m) (take j p) cm cp cells flags)
+
+  -- What is left in the four buffers: with 24 nothing is touched.
+  unfoldable pub programBuffers : Buffers
+  programBuffers = byFiles first second (λ file. (cm, cp, cells, flags)) (λ i j. reportBuffers (take i m) (take j p) cm cp cells flags)

@@ -1,6 +1,9 @@
 // The program but for its reading and printing (document 01, "The program and one full run").
+ghost use mathlib.Core.Path.{_≡_};
 ghost use Prim.Native.Nat.{_≤_};
-ghost use Rattle.program.specs.Run.{Ran};
+ghost use lib.ListN.{length};
+ghost use Rattle.emit.specs.Buffer.{after, stored};
+ghost use Rattle.program.specs.Run.{programText, programBuffers};
 use files::File;
 
 // The program, by what came of its two files: 24 for the first unreadable one, else the report. Each text stands at the start of its buffer.
@@ -15,7 +18,9 @@ pub fn program<'a>(
     flags: &mut [u8],
     out: &mut [u8],
 ) -> usize
-    ensures { λ r. ⌜ Ran first second (now (m .entry)) (now (p .entry)) (now (cm .entry)) (now (cp .entry)) (now (cells .entry)) (now (flags .entry)) (now (out .entry)) r (now (cm .exit)) (now (cp .exit)) (now (cells .exit)) (now (flags .exit)) (now (out .exit)) ⌝ }
+    ensures { λ r. ⌜ r ≡ after (length (now (out .entry))) 0 (programText first second (now (m .entry)) (now (p .entry)) (now (cm .entry)) (now (cp .entry)) (now (cells .entry)) (now (flags .entry))) ⌝ }
+    ensures { λ r. ⌜ now (out .exit) ≡ stored (now (out .entry)) 0 (programText first second (now (m .entry)) (now (p .entry)) (now (cm .entry)) (now (cp .entry)) (now (cells .entry)) (now (flags .entry))) ⌝ }
+    ensures { λ _. ⌜ (now (cm .exit), now (cp .exit), now (cells .exit), now (flags .exit)) ≡ programBuffers first second (now (m .entry)) (now (p .entry)) (now (cm .entry)) (now (cp .entry)) (now (cells .entry)) (now (flags .entry)) ⌝ }
     ensures { λ r. ⌜ r ≤ 65608 ⌝ }
 {
     let File::Bytes(i) = first else {

@@ -29,7 +29,7 @@ use Rattle.text.proofs.Decimal.{Digits, digits-of}
 use Rattle.emit.specs.Buffer.{stored}
 use Rattle.emit.proofs.Buffer.{stored-front}
 use Rattle.printout.specs.Lines.{refusalText, figures}
-use Rattle.report.specs.Report.{lentPairs, roomOf, reportChecks, madeText, jointText, unlessReportRefused, reportWith, Told}
+use Rattle.report.specs.Report.{lentPairs, roomOf, reportChecks, resultText, checkedOf, textRead, reportText, buffersRefused, buffersMade, buffersRead, reportBuffers}
 use Rattle.report.proofs.Whole.{lent-fits}
 
 -- What is printed of a number below 100,000 is its decimal: digits, five at most, no needless zero before them, and their value is the number.
@@ -212,98 +212,70 @@ six-no-line v true pairs kept rounds steps ends text file number line e =
 six-no-line v false pairs kept rounds steps ends text file number line e =
     omega (arith, ap firstByte e, ap firstByte (append-nil (figures v pairs kept rounds steps ends)), six-first v pairs kept rounds steps ends [], line-first file number line)
 
-module _ (m p : List ℕ) (room : ℕ) (order : ℕ → List ℕ) where
-  abbrev checkedOf : Reading → Reading → Checked
-  checkedOf x y = first (reportChecks m p (tableRead x) (tableRead y) (lentPairs (tableRead x) (tableRead y) room))
+-- The tables that were read, where no check applies.
+pub record Passed (m p cm cp cells flags : List ℕ) (j : Joint) : Type 0 where
+  pub component : Reading
+  pub specification : Reading
+  pub read : j ≡ both component specification
+  pub accepted : checkedOf m p cm cp cells flags component specification ≡ Accepted
 
-  line-leaves : (j : Joint) (file number line : ℕ) → jointText m p room order j ≡ refusalText file number line
-      → (l : List ℕ) (f : Reading → Reading → List ℕ) → unlessReportRefused m p room j l f ≡ l
-  unfolding madeText
-  line-leaves (neither r) file number line e l f = refl
-  line-leaves (both x y) file number line e l f = go (checkedOf x y) refl
+module _ (m p cm cp cells flags : List ℕ) where
+  abbrev checked : Reading → Reading → Checked
+  checked = checkedOf m p cm cp cells flags
+
+  line-leaves : (j : Joint) (file number line : ℕ) → textRead m p cm cp cells flags j ≡ refusalText file number line
+      → buffersRead m p cm cp cells flags j ≡ buffersRefused m p cm cp cells flags
+  unfolding resultText
+  line-leaves (neither r) file number line e = refl
+  line-leaves (both x y) file number line e = go (checked x y) refl
     where
-      go : (k : Checked) → checkedOf x y ≡ k → unlessReportRefused m p room (both x y) l f ≡ l
+      go : (k : Checked) → checked x y ≡ k → buffersRead m p cm cp cells flags (both x y) ≡ buffersRefused m p cm cp cells flags
       go Accepted q = absurd (six-no-line _ (synthesis (tableRead x) (tableRead y) .compatible) _ _ _ _ _ _ file number line (rw q at e))
       go (Refused r) q = rw q
 
-  record Passed (j : Joint) : Type 0 where
-    component : Reading
-    specification : Reading
-    read : j ≡ both component specification
-    accepted : checkedOf component specification ≡ Accepted
-
-  passed-leaves : (j : Joint) (w : Passed j) (l : List ℕ) (f : Reading → Reading → List ℕ)
-      → unlessReportRefused m p room j l f ≡ f (w .component) (w .specification)
-  passed-leaves j w l f = ap (λ (k : Joint). unlessReportRefused m p room k l f) (w .read) ∙ rw (w .accepted)
-
-  no-line-passed : (j : Joint) → ((file number line : ℕ) → jointText m p room order j ≡ refusalText file number line → ⊥) → Passed j
-  unfolding madeText
+  no-line-passed : (j : Joint) → ((file number line : ℕ) → textRead m p cm cp cells flags j ≡ refusalText file number line → ⊥)
+      → Passed m p cm cp cells flags j
   no-line-passed (neither r) h = absurd (h (r .text) (r .number) (r .line) refl)
-  no-line-passed (both x y) h = go (checkedOf x y) refl
+  no-line-passed (both x y) h = go (checked x y) refl
     where
-      go : (k : Checked) → checkedOf x y ≡ k → Passed (both x y)
+      go : (k : Checked) → checked x y ≡ k → Passed m p cm cp cells flags (both x y)
       go Accepted q = record { component = x; specification = y; read = refl; accepted = q }
       go (Refused r) q = absurd (h (r .table) (r .number) 0 (rw q))
-
--- Demand 1 of the letter: "A refused call changes no lent buffer, except that a refused reading leaves every table it was to fill without steps."
-pub record Undone (cm cp cells flags cm′ cp′ cells′ flags′ : List ℕ) : Type 0 where
-  pub module-stepless : cm′ ≡ replicate (length cm) 65535
-  pub plan-stepless : cp′ ≡ replicate (length cp) 65535
-  pub cells-kept : cells′ ≡ cells
-  pub flags-kept : flags′ ≡ flags
-
--- The tables read and the maker's result; beyond the result its buffers are as they were.
-pub record Done (m p cm cp cells flags cm′ cp′ cells′ flags′ : List ℕ) : Type 0 where
-  pub component : Reading
-  pub specification : Reading
-  pub read : readBoth (length cm) m (length cp) p ≡ both component specification
-  pub module-read : cm′ ≡ component .cells
-  pub plan-read : cp′ ≡ specification .cells
-  pub cells-made : cells′ ≡ synthesis (tableRead component) (tableRead specification) .cells ++ drop (controller (tableRead component) (tableRead specification) .header .states * 32) cells
-  pub flags-made : flags′ ≡ synthesis (tableRead component) (tableRead specification) .flags ++ drop (controller (tableRead component) (tableRead specification) .header .states) flags
-
-module _ (m p cm cp cells flags bytes : List ℕ) (end : ℕ) (cm′ cp′ cells′ flags′ bytes′ : List ℕ)
-    (t : Told m p cm cp cells flags bytes end cm′ cp′ cells′ flags′ bytes′) where
-  abbrev room : ℕ
-  room = roomOf (length cells) (length flags)
 
   abbrev j : Joint
   j = readBoth (length cm) m (length cp) p
 
-  -- What is printed.
-  abbrev printedText : List ℕ
-  printedText = reportWith (t .told .order) m p (length cm) (length cp) room
+  -- Demand 1 of the letter: "A refused call changes no lent buffer, except that a refused reading leaves every table it was to fill without
+  -- steps." Where the line of a refusal is printed, of the reading or after it:
+  pub refused-leaves : (file number line : ℕ) → reportText m p cm cp cells flags ≡ refusalText file number line
+      → reportBuffers m p cm cp cells flags ≡ (replicate (length cm) 65535, replicate (length cp) 65535, cells, flags)
+  unfolding reportText reportBuffers
+  refused-leaves file number line e = line-leaves j file number line e
 
-  -- Where it is the line of a refusal, of the reading or after it.
-  pub refused-leaves : (file number line : ℕ) → printedText ≡ refusalText file number line → Undone cm cp cells flags cm′ cp′ cells′ flags′
-  unfolding reportWith
-  refused-leaves file number line e =
-      let kept = line-leaves m p room (t .told .order) j file number line e in
-      record {
-        module-stepless = t .module-left ∙ kept _ (λ x y. x .cells);
-        plan-stepless = t .plan-left ∙ kept _ (λ x y. y .cells);
-        cells-kept = t .cells-left ∙ kept _ (λ x y. stored cells 0 (synthesis (tableRead x) (tableRead y) .cells));
-        flags-kept = t .flags-left ∙ kept _ (λ x y. stored flags 0 (synthesis (tableRead x) (tableRead y) .flags));
-      }
+  -- The tables read and the maker's result; beyond the result its buffers are as they were.
+  abbrev Done : Reading → Reading → Type 0
+  Done x y =
+      let s = synthesis (tableRead x) (tableRead y) in
+      let n = controller (tableRead x) (tableRead y) .header .states in
+      reportBuffers m p cm cp cells flags ≡ (x .cells, y .cells, s .cells ++ drop (n * 32) cells, s .flags ++ drop n flags)
 
-  -- Where it is none.
-  pub result-leaves : ((file number line : ℕ) → printedText ≡ refusalText file number line → ⊥) → Done m p cm cp cells flags cm′ cp′ cells′ flags′
-  unfolding reportWith
+  -- Where none is printed.
+  pub result-leaves : ((file number line : ℕ) → reportText m p cm cp cells flags ≡ refusalText file number line → ⊥)
+      → (x y : Reading) × (j ≡ both x y) × Done x y
+  unfolding reportText reportBuffers
   result-leaves h =
-      let w = no-line-passed m p room (t .told .order) j h in
-      let made = passed-leaves m p room (t .told .order) j w in
-      let a = tableRead (w .component) in
-      let b = tableRead (w .specification) in
+      let w = no-line-passed j h in
+      let x = w .component in
+      let y = w .specification in
+      let a = tableRead x in
+      let b = tableRead y in
       let all = all-lent m p a b (length cells) (length flags) (w .accepted) in
       let fits = lent-fits (count m p a b (length cells) (length flags)) (length cells) (length flags) _ refl in
       let n = cells-many m p a b (length cells) (length flags) in
       let k = flags-many m p a b (length cells) (length flags) in
-      record {
-        component = w .component;
-        specification = w .specification;
-        read = w .read;
-        module-read = t .module-left ∙ made _ (λ x y. x .cells);
-        plan-read = t .plan-left ∙ made _ (λ x y. y .cells);
-        cells-made = t .cells-left ∙ made _ (λ x y. stored cells 0 (synthesis (tableRead x) (tableRead y) .cells)) ∙ stored-front cells (synthesis a b .cells) (omega arith) ∙ rw n;
-        flags-made = t .flags-left ∙ made _ (λ x y. stored flags 0 (synthesis (tableRead x) (tableRead y) .flags)) ∙ stored-front flags (synthesis a b .flags) (omega arith) ∙ rw k;
-      }
+      let c : stored cells 0 (synthesis a b .cells) ≡ synthesis a b .cells ++ drop (controller a b .header .states * 32) cells =
+      stored-front cells (synthesis a b .cells) (omega arith) ∙ rw n in
+      let f : stored flags 0 (synthesis a b .flags) ≡ synthesis a b .flags ++ drop (controller a b .header .states) flags =
+      stored-front flags (synthesis a b .flags) (omega arith) ∙ rw k in
+      let made : buffersRead m p cm cp cells flags j ≡ buffersMade m p cm cp cells flags x y = ap (buffersRead m p cm cp cells flags) (w .read) ∙ rw (w .accepted) in
+      (x, y, w .read, made ∙ (λ i. (x .cells, y .cells, c i, f i)))

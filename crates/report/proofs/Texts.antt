@@ -11,16 +11,15 @@ use Rattle.theory.specs.declared.Checked.{Checked}
 use Rattle.theory.specs.declared.Checked.the-variants.{Accepted, Refused}
 use Rattle.theory.specs.Table.{Table}
 use Rattle.theory.specs.Checks.{first, unlessRefused}
-use Rattle.text.specs.Writing.{textWith, ascending, textLength, writerChecks, bytesWith, Written}
-use Rattle.text.proofs.Lengths.{ascending-order, text-length}
+use Rattle.text.specs.Writing.{wholeText, textLength, writerChecks, writerBytes}
 use Rattle.emit.proofs.Buffer.{Puts, puts-then}
 use Rattle.writer.specs.declared.Printed.{Printed}
 use Rattle.writer.specs.declared.Printed.the-variants as reply
 use Rattle.writer.specs.Replies.{writerReply}
 use Rattle.labels.specs.Names.{sequencerWord, signalNames}
 use Rattle.printout.specs.Lines.{refusalText}
-use Rattle.report.specs.Report.{textChecks}
-use Rattle.report.specs.Parts.{withText, WithText}
+use Rattle.report.specs.Report.{textChecks, withText}
+use Rattle.report.specs.Parts.{Answers}
 
 refused-of : (c : Checked) (n : ℕ) (r : Refusal) → unlessRefused c reply.Refused (reply.Length n) ≡ reply.Refused r → c ≡ Refused r
 refused-of Accepted n r e = absurd (let z : _≡_ {A = ℕ} 0 1 = cc in omega arith)
@@ -31,49 +30,45 @@ accepted-of Accepted n k e = (refl, cc)
 accepted-of (Refused s) n k e = absurd (let z : _≡_ {A = ℕ} 0 1 = cc in omega arith)
 
 module _ (m p : List ℕ) (t : Table) (bytes bytes′ : List ℕ) (k : Printed) (size : length bytes ≡ 65536)
-    (replied : k ≡ writerReply t sequencerWord (signalNames m p) (length bytes)) (written : Written t sequencerWord (signalNames m p) bytes bytes′) where
+    (replied : k ≡ writerReply t sequencerWord (signalNames m p) (length bytes)) (written : bytes′ ≡ writerBytes t sequencerWord (signalNames m p) bytes) where
   abbrev names : List (List ℕ)
   names = signalNames m p
 
   abbrev checked : Checked
-  checked = first (writerChecks t sequencerWord names 65536)
+  checked = first (textChecks m p t)
 
   told : unlessRefused checked reply.Refused (reply.Length (textLength t sequencerWord names)) ≡ k
-  unfolding writerReply
+  unfolding writerReply textChecks
   told = sym (rw size at replied)
 
   pub text-refused : (six : List ℕ) (r : Refusal) → k ≡ reply.Refused r → (out : List ℕ) (refused : Bool) (e : ℕ) (out′ : List ℕ) → refused ≡ true
-      → Puts out 0 (refusalText (r .table) (r .number) 0) e out′ → WithText m p t six out refused e out′
-  unfolding withText textChecks
+      → Puts out 0 (refusalText (r .table) (r .number) 0) e out′ → Answers checked (withText m p t six) out refused e out′
   text-refused six r q out refused e out′ w (u, v) =
       let c : checked ≡ Refused r = refused-of checked _ r (told ∙ q) in
-      record { told = record { order = ascending t; each-once = ascending-order t; text = rw c v; ends = rw c u }; refuses = w ∙ rw c }
+      record { refuses = w ∙ rw c; ends = rw c u; stands = rw c v }
 
   module _ (n : ℕ) (fits : k ≡ reply.Length n) where
     accepted : (checked ≡ Accepted) × (textLength t sequencerWord names ≡ n)
     accepted = accepted-of checked _ n (told ∙ fits)
 
     abbrev text : List ℕ
-    text = textWith (written .order) t sequencerWord names
+    text = wholeText t sequencerWord names
 
     long : length text ≡ n
-    long = text-length t (written .order) sequencerWord names (written .each-once) ∙ accepted .1
+    unfolding textLength
+    long = accepted .1
 
     whole : bytes′ ≡ text ++ drop n bytes
-    unfolding bytesWith
-    whole = let e = rw size at (written .text) in (rw (accepted .0, accepted .1) at e)
+    unfolding writerBytes textChecks
+    whole = let e = rw size at written in (rw (accepted .0, accepted .1) at e)
 
     pub text-within : length bytes′ ≡ length bytes → n ≤ length bytes′
     text-within e = omega (arith, ap length whole, length-append text (drop n bytes), length-drop n bytes, long)
 
     pub text-follows : (six out : List ℕ) (at e : ℕ) (out₁ out₂ : List ℕ) → Puts out 0 six at out₁ → Puts out₁ at (take (n - 0) bytes′) e out₂
-        → WithText m p t six out false e out₂
-    unfolding withText textChecks
+        → Answers checked (withText m p t six) out false e out₂
     text-follows six out at e out₁ out₂ u v =
         let z : n - 0 ≡ length text = omega (arith, long) in
         let part : take (n - 0) bytes′ ≡ text = rw (z, whole) (take-append-seam text (drop n bytes)) in
         let w = puts-then out 0 six text at e out₁ out₂ u (rw part at v) in
-        record {
-          told = record { order = written .order; each-once = written .each-once; text = rw (accepted .0) (w .1); ends = rw (accepted .0) (w .0) };
-          refuses = rw (accepted .0);
-        }
+        record { refuses = rw (accepted .0); ends = rw (accepted .0) (w .0); stands = rw (accepted .0) (w .1) }

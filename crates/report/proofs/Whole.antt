@@ -16,17 +16,17 @@ use Rattle.theory.specs.Table.{Table, table}
 use Rattle.theory.specs.Checks.{first, unlessRefused}
 use Rattle.text.specs.declared.TextRefusal.{TextRefusal}
 use Rattle.text.specs.Reading.{Reading, Joint, both, neither, readBoth, cellsFirst, cellsSecond, tableRead}
-use Rattle.text.specs.Writing.{ascending}
 use Rattle.text.proofs.Accepted as accepted
-use Rattle.text.proofs.Lengths.{ascending-order}
-use Rattle.emit.specs.Buffer.{stored}
+use Rattle.emit.specs.Buffer.{stored, after}
 use Rattle.emit.proofs.Buffer.{Puts}
 use Rattle.reader.specs.declared.Together.{Together}
 use Rattle.reader.specs.declared.Together.the-variants as together
 use Rattle.reader.specs.Replies.{togetherReply}
 use Rattle.printout.specs.Lines.{refusalText}
-use Rattle.report.specs.Report.{lesserOf, roomOf, reportChecks, reportWith, printedTable, Reported, Told}
+use Rattle.printout.proofs.Short.{within}
+use Rattle.report.specs.Report.{lesserOf, roomOf, reportChecks, Buffers, checkedOf, buffersRefused, buffersMade, reportText, reportBuffers}
 use Rattle.report.specs.Parts.{isRefused, Makes, Holds, Fitting, Leaves, pairsFor}
+use Rattle.report.proofs.Short.{report-short}
 
 -- ---- the lesser of two numbers
 
@@ -91,10 +91,9 @@ module _ (m p : List ℕ) (a b : Table) (cells flags : List ℕ) (n : ℕ) (n-le
       let k = first (reportChecks m p a b (pairsFor a b cells flags)) in
       let w′ : Makes m p a b (pairsFor a b cells flags) out refused e made kept out′ = rw lent-own at w in
       record {
-        told = w′ .told;
-        refuses = w′ .refuses;
-        cells-left = u ∙ left-by k refused (w′ .refuses) cells _ _ (λ q. ap (stored cells 0) (f′ ∙ w′ .cells-made q));
-        flags-left = v ∙ left-by k refused (w′ .refuses) flags _ _ (λ q. ap (stored flags 0) (g′ ∙ w′ .flags-made q));
+        answers = w′ .answers;
+        cells-left = u ∙ left-by k refused (w′ .answers .refuses) cells _ _ (λ q. ap (stored cells 0) (f′ ∙ w′ .cells-made q));
+        flags-left = v ∙ left-by k refused (w′ .answers .refuses) flags _ _ (λ q. ap (stored flags 0) (g′ ∙ w′ .flags-made q));
       }
 
 -- ---- what was read
@@ -121,31 +120,45 @@ joint-tables : (j : Joint) (a b : Automaton) → togetherReply j ≡ together.Ta
 joint-tables (both x y) a b e = record { first = x; second = y; are = refl; header = cc; header′ = cc }
 joint-tables (neither s) a b e = absurd (let z : _≡_ {A = ℕ} 0 1 = cc in omega arith)
 
+-- The contract of the call, with what is left in the four buffers.
+abbrev Reports : (m p cm cp cells flags bytes : List ℕ) (end : ℕ) (bytes′ : List ℕ) → Buffers → Type 0
+Reports m p cm cp cells flags bytes end bytes′ left =
+    (end ≡ after (length bytes) 0 (reportText m p cm cp cells flags))
+    × ((bytes′ ≡ stored bytes 0 (reportText m p cm cp cells flags)) × ((left ≡ reportBuffers m p cm cp cells flags) × (end ≤ 65608)))
+
+reports : (m p cm cp cells flags bytes : List ℕ) (end : ℕ) (bytes′ : List ℕ) (left : Buffers) → Puts bytes 0 (reportText m p cm cp cells flags) end bytes′
+    → left ≡ reportBuffers m p cm cp cells flags → Reports m p cm cp cells flags bytes end bytes′ left
+reports m p cm cp cells flags bytes end bytes′ left (u, v) e =
+    let text = reportText m p cm cp cells flags in
+    (u, (v, (e, omega (arith, u, within (length bytes) 0 text, report-short m p cm cp cells flags))))
+
 module _ (cm₀ cp₀ m p cm cp : List ℕ) (k : Together) (replied : k ≡ togetherReply (readBoth (length cm₀) m (length cp₀) p))
     (first-left : cm ≡ cellsFirst (length cm₀) (readBoth (length cm₀) m (length cp₀) p))
     (second-left : cp ≡ cellsSecond (length cp₀) (readBoth (length cm₀) m (length cp₀) p)) where
   abbrev j : Joint
   j = readBoth (length cm₀) m (length cp₀) p
 
-  module _ (r : TextRefusal) (no : k ≡ together.Refused r) where
+  module _ (r : TextRefusal) (no : k ≡ together.Refused r) (cells flags : List ℕ) where
     none : j ≡ neither r
     none = joint-refused j r (sym replied ∙ no)
 
-    line-put : (pairs : ℕ) (out : List ℕ) (e : ℕ) (out′ : List ℕ) → Puts out 0 (refusalText (r .text) (r .number) (r .line)) e out′
-        → Reported m p (length cm₀) (length cp₀) pairs out e out′
-    unfolding reportWith
-    line-put pairs out e out′ (u, v) =
-        record { order = ascending (printedTable j); each-once = ascending-order (printedTable j); text = rw none v; ends = rw none u }
+    first-cleared : cm ≡ replicate (length cm₀) 65535
+    first-cleared = first-left ∙ rw none
 
-    pub told-refused : (cells flags out : List ℕ) (e : ℕ) (out′ : List ℕ) → Puts out 0 (refusalText (r .text) (r .number) (r .line)) e out′
-        → Told m p cm₀ cp₀ cells flags out e cm cp cells flags out′
-    told-refused cells flags out e out′ w = record {
-      told = line-put _ out e out′ w;
-      module-left = first-left ∙ rw none;
-      plan-left = second-left ∙ rw none;
-      cells-left = rw none;
-      flags-left = rw none;
-    }
+    second-cleared : cp ≡ replicate (length cp₀) 65535
+    second-cleared = second-left ∙ rw none
+
+    text-refused : refusalText (r .text) (r .number) (r .line) ≡ reportText m p cm₀ cp₀ cells flags
+    unfolding reportText
+    text-refused = rw none
+
+    left-refused : (cm, cp, cells, flags) ≡ reportBuffers m p cm₀ cp₀ cells flags
+    unfolding reportBuffers
+    left-refused = rw (none, first-cleared, second-cleared)
+
+    pub reading-refused : (out : List ℕ) (e : ℕ) (out′ : List ℕ) → Puts out 0 (refusalText (r .text) (r .number) (r .line)) e out′
+        → Reports m p cm₀ cp₀ cells flags out e out′ (cm, cp, cells, flags)
+    reading-refused out e out′ w = reports m p cm₀ cp₀ cells flags out e out′ _ (rw text-refused at w) left-refused
 
   module _ (a b : Automaton) (yes : k ≡ together.Tables a b) where
     given : Tables j a b
@@ -187,33 +200,33 @@ module _ (cm₀ cp₀ m p cm cp : List ℕ) (k : Together) (replied : k ≡ toge
 
     module _ (cells flags out : List ℕ) (refused : Bool) (e : ℕ) (cells′ flags′ out′ : List ℕ)
         (leaves : Leaves m p (table a (take (a .states * 32) cm)) (table b (take (b .states * 32) cp)) cells flags out refused e cells′ flags′ out′) where
-      abbrev pairs : ℕ
-      pairs = roomOf (length cells) (length flags)
-
       abbrev checked : Checked
-      checked = first (reportChecks m p (tableRead x) (tableRead y) (pairsFor (tableRead x) (tableRead y) cells flags))
+      checked = checkedOf m p cm₀ cp₀ cells flags x y
 
-      made : Leaves m p (tableRead x) (tableRead y) cells flags out refused e cells′ flags′ out′
-      made = rw (first-table, second-table) at leaves
+      left : Leaves m p (tableRead x) (tableRead y) cells flags out refused e cells′ flags′ out′
+      left = rw (first-table, second-table) at leaves
 
-      made-put : Reported m p (length cm₀) (length cp₀) pairs out e out′
-      unfolding reportWith
-      made-put = record {
-        order = made .told .order;
-        each-once = rw (given .are) (made .told .each-once);
-        text = rw (given .are) (made .told .text);
-        ends = rw (given .are) (made .told .ends);
-      }
+      text-put : Puts out 0 (reportText m p cm₀ cp₀ cells flags) e out′
+      unfolding reportText
+      text-put = rw (given .are) (left .answers .ends, left .answers .stands)
 
-      pub told-made : (cm′ cp′ : List ℕ) → cm′ ≡ cond refused (replicate (length cm) 65535) cm → cp′ ≡ cond refused (replicate (length cp) 65535) cp
-          → Told m p cm₀ cp₀ cells flags out e cm′ cp′ cells′ flags′ out′
-      told-made cm′ cp′ u v =
+      -- By the answer, each of the four buffers.
+      by-answer : (k : Checked) → checked ≡ k → (cm′ cp′ : List ℕ) → cm′ ≡ unlessRefused k (λ r. replicate (length cm₀) 65535) (x .cells)
+          → cp′ ≡ unlessRefused k (λ r. replicate (length cp₀) 65535) (y .cells)
+          → (cm′, cp′, cells′, flags′) ≡ unlessRefused k (λ r. buffersRefused m p cm₀ cp₀ cells flags) (buffersMade m p cm₀ cp₀ cells flags x y)
+      by-answer Accepted q cm′ cp′ u v = let c = rw q at (left .cells-left) in let f = rw q at (left .flags-left) in λ i. (u i, v i, c i, f i)
+      by-answer (Refused r) q cm′ cp′ u v = let c = rw q at (left .cells-left) in let f = rw q at (left .flags-left) in λ i. (u i, v i, c i, f i)
+
+      buffers-left : (cm′ cp′ : List ℕ) → cm′ ≡ cond refused (replicate (length cm) 65535) cm → cp′ ≡ cond refused (replicate (length cp) 65535) cp
+          → (cm′, cp′, cells′, flags′) ≡ reportBuffers m p cm₀ cp₀ cells flags
+      unfolding reportBuffers
+      buffers-left cm′ cp′ u v =
           let n : length cm ≡ length cm₀ = ap length first-cells ∙ sound .first .size in
           let n′ : length cp ≡ length cp₀ = ap length second-cells ∙ sound .second .size in
-          record {
-            told = made-put;
-            module-left = rw (given .are) (u ∙ rw n (left-by checked refused (made .refuses) _ cm _ (λ q. first-cells)));
-            plan-left = rw (given .are) (v ∙ rw n′ (left-by checked refused (made .refuses) _ cp _ (λ q. second-cells)));
-            cells-left = rw (given .are) (made .cells-left);
-            flags-left = rw (given .are) (made .flags-left);
-          }
+          rw (given .are) (by-answer checked refl cm′ cp′
+          (u ∙ rw n (left-by checked refused (left .answers .refuses) _ cm _ (λ q. first-cells)))
+          (v ∙ rw n′ (left-by checked refused (left .answers .refuses) _ cp _ (λ q. second-cells))))
+
+      pub report-made : (cm′ cp′ : List ℕ) → cm′ ≡ cond refused (replicate (length cm) 65535) cm → cp′ ≡ cond refused (replicate (length cp) 65535) cp
+          → Reports m p cm₀ cp₀ cells flags out e out′ (cm′, cp′, cells′, flags′)
+      report-made cm′ cp′ u v = reports m p cm₀ cp₀ cells flags out e out′ _ text-put (buffers-left cm′ cp′ u v)

@@ -1,16 +1,16 @@
 -- What the program prints for two texts, and what is left in the buffers that it lends (01, "The program and one full run"). m is the
 -- module's text, p the plan's.
-use mathlib.Core.Path.{_≡_}
 use mathlib.Core.Bool.{cond}
 use mathlib.Core.List.{List, [], _++_}
 use Prim.Native.Nat.{ℕ, _*_, _/_}
 use lib.Dec.{leb}
 use lib.ListN.{length, replicate}
-use Rattle.theory.specs.Table.{Table, table, synthesis, controller, keptCount, stepCount, endCount}
+use Rattle.theory.specs.declared.Checked.{Checked}
+use Rattle.theory.specs.Table.{Table, synthesis, controller, keptCount, stepCount, endCount}
 use Rattle.theory.specs.Checks.{Check, first, unlessRefused, synthesisChecks}
 use Rattle.text.specs.Reading.{Reading, Joint, both, neither, readBoth, tableRead}
-use Rattle.text.specs.Writing.{textWith, Order, writerChecks}
-use Rattle.emit.specs.Buffer.{stored, after}
+use Rattle.text.specs.Writing.{wholeText, writerChecks}
+use Rattle.emit.specs.Buffer.{stored}
 use Rattle.labels.specs.Names.{sequencerWord, signalNames}
 use Rattle.printout.specs.Lines.{refusalText, figures}
 
@@ -32,60 +32,61 @@ roomOf cells flags = lesserOf (lesserOf (cells / 32) flags) 1024
 unfoldable pub textChecks : List ℕ → List ℕ → Table → List Check
 textChecks m p t = writerChecks t sequencerWord (signalNames m p) 65536
 
-module _ (m p : List ℕ) (a b : Table) (n : ℕ) where
-  -- The checks after the reading, where the maker is given buffers of n pairs: the maker's and, with yes, the writer's.
-  unfoldable pub reportChecks : List Check
-  reportChecks = synthesisChecks a b (n * 32) n ++ cond (synthesis a b .compatible) (textChecks m p (controller a b)) []
+-- The six lines of a verdict yes, with the text behind them.
+abbrev pub withText : List ℕ → List ℕ → Table → List ℕ → List ℕ
+withText m p t six = six ++ wholeText t sequencerWord (signalNames m p)
 
-  -- The line of the first check that applies; else the six lines, which with yes the text follows.
-  unfoldable pub madeText : (ℕ → List ℕ) → List ℕ
-  madeText order =
+-- The line of a refusal after the reading, if there is one; else the text.
+abbrev pub unlessLine : Checked → List ℕ → List ℕ
+unlessLine c text = unlessRefused c (λ r. refusalText (r .table) (r .number) 0) text
+
+module _ (m p : List ℕ) (a b : Table) where
+  -- The checks after the reading, where the maker is given buffers of n pairs: the maker's and, with yes, the writer's.
+  unfoldable pub reportChecks : ℕ → List Check
+  reportChecks n = synthesisChecks a b (n * 32) n ++ cond (synthesis a b .compatible) (textChecks m p (controller a b)) []
+
+  -- What is printed where no check applies: the six lines, which with yes the text follows.
+  unfoldable pub resultText : List ℕ
+  resultText =
       let s = synthesis a b in
       let t = controller a b in
       let six = figures (s .compatible) (t .header .states) (keptCount (s .flags)) (s .rounds) (stepCount t) (endCount t) in
-      unlessRefused (first reportChecks) (λ r. refusalText (r .table) (r .number) 0)
-      (cond (s .compatible) (six ++ textWith order t sequencerWord (signalNames m p)) six)
+      cond (s .compatible) (withText m p t six) six
 
--- ---- two texts
+-- ---- two texts: the call, with cm and cp lent for the cells of module and plan, cells and flags for the result
 
-module _ (m p : List ℕ) (room : ℕ) where
-  abbrev pub jointText : (ℕ → List ℕ) → Joint → List ℕ
-  jointText order (both x y) = madeText m p (tableRead x) (tableRead y) (lentPairs (tableRead x) (tableRead y) room) order
-  jointText order (neither r) = refusalText (r .text) (r .number) (r .line)
+-- The four lent buffers.
+abbrev pub Buffers : Type 0
+Buffers = List ℕ × List ℕ × List ℕ × List ℕ
 
-  -- Gives l where the report is a refusal, of the reading or after it; else f of module and plan as read.
-  abbrev pub unlessReportRefused : Joint → List ℕ → (Reading → Reading → List ℕ) → List ℕ
-  unlessReportRefused (both x y) l f =
-      unlessRefused (first (reportChecks m p (tableRead x) (tableRead y) (lentPairs (tableRead x) (tableRead y) room))) (λ r. l) (f x y)
-  unlessReportRefused (neither r) l f = l
+module _ (m p cm cp cells flags : List ℕ) where
+  -- What comes of the checks after the reading.
+  abbrev pub checkedOf : Reading → Reading → Checked
+  checkedOf x y =
+      let a = tableRead x in
+      let b = tableRead y in
+      first (reportChecks m p a b (lentPairs a b (roomOf (length cells) (length flags))))
 
--- All that is printed, with lent cells for so many states of each table and a result of so many pairs.
-unfoldable pub reportWith : (ℕ → List ℕ) → List ℕ → List ℕ → ℕ → ℕ → ℕ → List ℕ
-reportWith order m p cells cells′ pairs = jointText m p pairs order (readBoth cells m cells′ p)
+  abbrev pub textRead : Joint → List ℕ
+  textRead (both x y) = unlessLine (checkedOf x y) (resultText m p (tableRead x) (tableRead y))
+  textRead (neither r) = refusalText (r .text) (r .number) (r .line)
 
--- The table whose text is printed; the order of its steps within a state is what 01 leaves open.
-abbrev pub printedTable : Joint → Table
-printedTable (both x y) = controller (tableRead x) (tableRead y)
-printedTable (neither r) = table (record { states = 0; initial = 0; inputs = 0; outputs = 0 }) []
+  -- All that is printed.
+  unfoldable pub reportText : List ℕ
+  reportText = textRead (readBoth (length cm) m (length cp) p)
 
--- The contract of the bytes: in some such order, from the first byte on; bytes past the report stay.
-pub record Reported (m p : List ℕ) (cells cells′ pairs : ℕ) (bytes : List ℕ) (end : ℕ) (bytes′ : List ℕ) : Type 0 where
-  pub order : ℕ → List ℕ
-  pub each-once : Order (printedTable (readBoth cells m cells′ p)) order
-  pub text : bytes′ ≡ stored bytes 0 (reportWith order m p cells cells′ pairs)
-  pub ends : end ≡ after (length bytes) 0 (reportWith order m p cells cells′ pairs)
+  -- After a refusal, of the reading or after it: two tables without steps, and the result's buffers as they were.
+  abbrev pub buffersRefused : Buffers
+  buffersRefused = (replicate (length cm) 65535, replicate (length cp) 65535, cells, flags)
 
--- ---- the call: the report of two texts, and what is left in the lent buffers, cm and cp the cells of module and plan
+  -- Else the tables as read, and the result's buffers, which begin with it.
+  abbrev pub buffersMade : Reading → Reading → Buffers
+  buffersMade x y = let s = synthesis (tableRead x) (tableRead y) in (x .cells, y .cells, stored cells 0 (s .cells), stored flags 0 (s .flags))
 
--- What the call leaves in one of the lent buffers: l after a refusal, else f of module and plan as read.
-abbrev pub leftIn : (m p cm cp cells flags : List ℕ) → List ℕ → (Reading → Reading → List ℕ) → List ℕ
-leftIn m p cm cp cells flags l f = unlessReportRefused m p (roomOf (length cells) (length flags)) (readBoth (length cm) m (length cp) p) l f
+  abbrev pub buffersRead : Joint → Buffers
+  buffersRead (both x y) = unlessRefused (checkedOf x y) (λ r. buffersRefused) (buffersMade x y)
+  buffersRead (neither r) = buffersRefused
 
--- Where the answer is a refusal, the two tables are left without steps, and the result's buffers as they were; else the tables are as read, and
--- the result's buffers begin with it.
-pub record Told (m p cm cp cells flags bytes : List ℕ) (end : ℕ) (cm′ cp′ cells′ flags′ bytes′ : List ℕ) : Type 0 where
-  pub told : Reported m p (length cm) (length cp) (roomOf (length cells) (length flags)) bytes end bytes′
-  pub module-left : cm′ ≡ leftIn m p cm cp cells flags (replicate (length cm) 65535) (λ x y. x .cells)
-  pub plan-left : cp′ ≡ leftIn m p cm cp cells flags (replicate (length cp) 65535) (λ x y. y .cells)
-  pub cells-left : cells′ ≡ leftIn m p cm cp cells flags cells (λ x y. stored cells 0 (synthesis (tableRead x) (tableRead y) .cells))
-  pub flags-left : flags′ ≡ leftIn m p cm cp cells flags flags (λ x y. stored flags 0 (synthesis (tableRead x) (tableRead y) .flags))
+  -- What is left in the four buffers.
+  unfoldable pub reportBuffers : Buffers
+  reportBuffers = buffersRead (readBoth (length cm) m (length cp) p)

@@ -4,10 +4,11 @@ ghost use mathlib.Core.Bool.{true, cond};
 ghost use Prim.Native.Nat.{_*_, _≤_};
 ghost use lib.ListN.{length, take, replicate};
 ghost use Rattle.theory.specs.Table.{table};
+ghost use Rattle.theory.specs.Checks.{first};
 ghost use Rattle.emit.specs.Buffer.{after, stored};
 ghost use Rattle.printout.specs.Lines.{refusalText};
-ghost use Rattle.report.specs.Report.{lesserOf, roomOf, Told};
-ghost use Rattle.report.specs.Parts.{sixOf, WithText, Tells, Makes, Holds, Fitting, Leaves};
+ghost use Rattle.report.specs.Report.{lesserOf, roomOf, textChecks, withText, reportText, reportBuffers};
+ghost use Rattle.report.specs.Parts.{sixOf, Answers, replyChecked, replyText, Makes, Holds, Fitting, Leaves};
 use printout::refusal_line;
 use reader::Together;
 use synthesis::Synthesis;
@@ -61,7 +62,7 @@ fn put_text<'a>(
     out: &mut [u8],
 ) -> Answer
     requires { ⌜ length (now text) ≡ 65536 ⌝ }
-    ensures { λ r. ⌜ WithText (now (m .entry)) (now (p .entry)) (table header (now (cells .entry))) (sixOf true (header .states) rounds (now (cells .entry)) (now (flags .entry))) (now (out .entry)) (r .refused) (r .end) (now (out .exit)) ⌝ }
+    ensures { λ r. ⌜ Answers (first (textChecks (now (m .entry)) (now (p .entry)) (table header (now (cells .entry))))) (withText (now (m .entry)) (now (p .entry)) (table header (now (cells .entry))) (sixOf true (header .states) rounds (now (cells .entry)) (now (flags .entry)))) (now (out .entry)) (r .refused) (r .end) (now (out .exit)) ⌝ }
 {
     match labels::write_text(m, p, header, cells, text) {
         Printed::Refused(r) => refuse(out, r),
@@ -86,7 +87,7 @@ fn with_text<'a>(
     flags: &[u8],
     out: &mut [u8],
 ) -> Answer
-    ensures { λ r. ⌜ WithText (now (m .entry)) (now (p .entry)) (table header (now (cells .entry))) (sixOf true (header .states) rounds (now (cells .entry)) (now (flags .entry))) (now (out .entry)) (r .refused) (r .end) (now (out .exit)) ⌝ }
+    ensures { λ r. ⌜ Answers (first (textChecks (now (m .entry)) (now (p .entry)) (table header (now (cells .entry))))) (withText (now (m .entry)) (now (p .entry)) (table header (now (cells .entry))) (sixOf true (header .states) rounds (now (cells .entry)) (now (flags .entry)))) (now (out .entry)) (r .refused) (r .end) (now (out .exit)) ⌝ }
 {
     let mut text = [0u8; 65536];
     put_text(m, p, header, rounds, cells, flags, &mut text, out)
@@ -101,7 +102,7 @@ fn tell<'a>(
     flags: &[u8],
     out: &mut [u8],
 ) -> Answer
-    ensures { λ r. ⌜ Tells (now (m .entry)) (now (p .entry)) reply (now (cells .entry)) (now (flags .entry)) (now (out .entry)) (r .refused) (r .end) (now (out .exit)) ⌝ }
+    ensures { λ r. ⌜ Answers (replyChecked (now (m .entry)) (now (p .entry)) reply (now (cells .entry))) (replyText (now (m .entry)) (now (p .entry)) reply (now (cells .entry)) (now (flags .entry))) (now (out .entry)) (r .refused) (r .end) (now (out .exit)) ⌝ }
 {
     match reply {
         Synthesis::Controller { header, rounds } => with_text(
@@ -267,7 +268,9 @@ pub fn report<'a>(
     flags: &mut [u8],
     out: &mut [u8],
 ) -> usize
-    ensures { λ r. ⌜ Told (now (m .entry)) (now (p .entry)) (now (cm .entry)) (now (cp .entry)) (now (cells .entry)) (now (flags .entry)) (now (out .entry)) r (now (cm .exit)) (now (cp .exit)) (now (cells .exit)) (now (flags .exit)) (now (out .exit)) ⌝ }
+    ensures { λ r. ⌜ r ≡ after (length (now (out .entry))) 0 (reportText (now (m .entry)) (now (p .entry)) (now (cm .entry)) (now (cp .entry)) (now (cells .entry)) (now (flags .entry))) ⌝ }
+    ensures { λ r. ⌜ now (out .exit) ≡ stored (now (out .entry)) 0 (reportText (now (m .entry)) (now (p .entry)) (now (cm .entry)) (now (cp .entry)) (now (cells .entry)) (now (flags .entry))) ⌝ }
+    ensures { λ _. ⌜ (now (cm .exit), now (cp .exit), now (cells .exit), now (flags .exit)) ≡ reportBuffers (now (m .entry)) (now (p .entry)) (now (cm .entry)) (now (cp .entry)) (now (cells .entry)) (now (flags .entry)) ⌝ }
     ensures { λ r. ⌜ r ≤ 65608 ⌝ }
 {
     match reader::read_together(m, p, cm, cp) {

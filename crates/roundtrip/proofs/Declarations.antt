@@ -14,8 +14,8 @@ use Rattle.text.specs.declared.Role.{Role}
 use Rattle.text.specs.declared.Role.the-variants.{Input, Output}
 use Rattle.text.specs.Lines.{roleWord, byKind}
 use Rattle.text.specs.Reading.{Signal, Reading, next, indexOf, withRole, known, entered}
-use Rattle.text.specs.Writing.{roleOf, nameOf, signalRow, occurrences}
-use Rattle.text.proofs.Occurrences.{occurrences-here, occurrences-other, occurrences-more}
+use Rattle.text.specs.Writing.{roleOf, nameOf, signalRow}
+use Rattle.text.proofs.Occurrences.{occurrences, occurrences-here, occurrences-other, occurrences-more}
 use Rattle.text.proofs.Roles.{rolesAt, only, roles-here, roles-there}
 use Rattle.text.proofs.Entries.{declaring-next}
 use Rattle.text.proofs.Accepted.{with-states, with-initial}

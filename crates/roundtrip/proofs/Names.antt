@@ -10,9 +10,8 @@ use lib.ListN.{length, getD, length-append, length-map}
 use borrow.Author.Tests.{eq-eqb, ne-eqb, lt-ltb, le-ltb}
 use Rattle.text.specs.Fields.{same}
 use Rattle.text.specs.Reading.{Signal, indexOf, known}
-use Rattle.text.specs.Writing.{occurrences}
 use Rattle.text.proofs.Names.{same-self, same-eq, same-not, index-le, index-append, index-put}
-use Rattle.text.proofs.Occurrences.{occurrences-nil, occurrences-here, occurrences-other, occurrences-more}
+use Rattle.text.proofs.Occurrences.{occurrences, occurrences-nil, occurrences-here, occurrences-other, occurrences-more}
 use Rattle.roundtrip.specs.RoundTrip.{rank, place, with, different}
 
 -- ---- the place of a name

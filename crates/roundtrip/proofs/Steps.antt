@@ -1,4 +1,4 @@
--- What the steps of a written table do to a reading, in any order.
+-- What the steps of a written table do to a reading.
 use mathlib.Core.Path.{_≡_, refl, sym, ap, _∙_}
 use mathlib.Core.Bool.{Bool, true, false, cond}
 use mathlib.Core.List.{List, [], _∷_}
@@ -19,8 +19,9 @@ use Rattle.theory.proofs.Options.{is-some, when-of}
 use Rattle.text.specs.declared.Place.the-variants.{Steps}
 use Rattle.text.specs.Lines.{takesStep, byKind}
 use Rattle.text.specs.Reading.{Signal, Reading, next, indexOf, stepping, entered}
-use Rattle.text.specs.Writing.{nameOf, stepRow, stepRows, hasStep, occurrences, Order}
-use Rattle.text.proofs.Occurrences.{digit-few, occurrences-nil, occurrences-here, occurrences-other, occurrences-more}
+use Rattle.text.specs.Writing.{nameOf, stepRow, stepRows, hasStep, enabledAt}
+use Rattle.text.proofs.Occurrences.{occurrences, digit-few, occurrences-nil, occurrences-here, occurrences-other, occurrences-more}
+use Rattle.text.proofs.Written.{enabled-once}
 use Rattle.text.proofs.Entries.{stepping-next}
 use Rattle.roundtrip.specs.RoundTrip.{place}
 use Rattle.roundtrip.proofs.Names.{namesIn, index-place}
@@ -46,23 +47,23 @@ abbrev pub Good : Table → Move → Type 0
 Good t k = (k .0 < t .header .states) × T (declared t (k .1))
 
 -- How often a step is left, where of the state s those of the signals xs are left, and all those of later states.
-abbrev pub left : (ℕ → List ℕ) → ℕ → List ℕ → Move → ℕ
-left order s xs k = cond (ltb (k .0) s) 0 (cond (eqb (k .0) s) (occurrences (k .1) xs) (occurrences (k .1) (order (k .0))))
+abbrev pub left : Table → ℕ → List ℕ → Move → ℕ
+left t s xs k = cond (ltb (k .0) s) 0 (cond (eqb (k .0) s) (occurrences (k .1) xs) (occurrences (k .1) (enabledAt t (k .0))))
 
-module _ (order : ℕ → List ℕ) where
-  left-here : (s : ℕ) (xs : List ℕ) (a : ℕ) → left order s xs (s, a) ≡ occurrences a xs
+module _ (t : Table) where
+  left-here : (s : ℕ) (xs : List ℕ) (a : ℕ) → left t s xs (s, a) ≡ occurrences a xs
   left-here s xs a = rw (le-ltb s s (omega arith), eq-eqb s s refl)
 
   -- One step of the state s is put.
-  left-other : (s x : ℕ) (xs : List ℕ) (k : Move) → ¬ (k ≡ (s, x)) → left order s xs k ≡ left order s (x ∷ xs) k
+  left-other : (s x : ℕ) (xs : List ℕ) (k : Move) → ¬ (k ≡ (s, x)) → left t s xs k ≡ left t s (x ∷ xs) k
   left-other s x xs k d = elim (ℕ-discrete (k .0) s) [
-    | yes e ↦ ap (λ i. cond (ltb (k .0) s) 0 (cond (eqb (k .0) s) i (occurrences (k .1) (order (k .0)))))
+    | yes e ↦ ap (λ i. cond (ltb (k .0) s) 0 (cond (eqb (k .0) s) i (occurrences (k .1) (enabledAt t (k .0)))))
         (sym (occurrences-other (k .1) x xs (λ f. d (λ i. (e i, sym f i)))))
     | no n ↦ rw (ne-eqb (k .0) s n)
   ]
 
   -- All those of the state s are put.
-  left-next : (s : ℕ) (k : Move) → left order s [] k ≡ left order (suc s) (order (suc s)) k
+  left-next : (s : ℕ) (k : Move) → left t s [] k ≡ left t (suc s) (enabledAt t (suc s)) k
   left-next s k = elim (decLt (k .0) (suc s)) [
     | yes l ↦ elim (ℕ-discrete (k .0) s) [
       | yes e ↦ rw (lt-ltb (k .0) (suc s) l, le-ltb (k .0) s (omega arith), eq-eqb (k .0) s e) (occurrences-nil (k .1))
@@ -74,7 +75,7 @@ module _ (order : ℕ → List ℕ) where
     ]
   ]
 
-  pub left-first : (k : Move) → left order 0 (order 0) k ≡ occurrences (k .1) (order (k .0))
+  pub left-first : (k : Move) → left t 0 (enabledAt t 0) k ≡ occurrences (k .1) (enabledAt t (k .0))
   left-first k = elim (ℕ-discrete (k .0) 0) [
     | yes e ↦ rw (le-ltb (k .0) 0 (omega arith), eq-eqb (k .0) 0 e, e)
     | no n ↦ rw (le-ltb (k .0) 0 (omega arith), ne-eqb (k .0) 0 n)
@@ -82,8 +83,7 @@ module _ (order : ℕ → List ℕ) where
 
 -- ---- reading them
 
-module _ (t : Table) (name : List ℕ) (names final : List (List ℕ)) (w : Writable t name names) (n : Numbered t names final)
-    (order : ℕ → List ℕ) (o : Order t order) where
+module _ (t : Table) (name : List ℕ) (names final : List (List ℕ)) (w : Writable t name names) (n : Numbered t names final) where
   abbrev states : ℕ
   states = t .header .states
 
@@ -95,11 +95,11 @@ module _ (t : Table) (name : List ℕ) (names final : List (List ℕ)) (w : Writ
       let a : k .1 ≡ j .1 = number-apart t name names final w n (k .1) (j .1) (g .1) (h .1) (omega arith) in
       λ i. (s i, a i)
 
-  -- A step that is in the order.
-  ordered : (s a : ℕ) → s < states → 0 < occurrences a (order s) → T (declared t a) × (cellAt t s a < states)
-  ordered s a h k = go (hasStep t s a) refl (o .once s a h)
+  -- A step that is written.
+  written : (s a : ℕ) → s < states → 0 < occurrences a (enabledAt t s) → T (declared t a) × (cellAt t s a < states)
+  written s a h k = go (hasStep t s a) refl (enabled-once t s a)
     where
-      go : (b : Bool) → hasStep t s a ≡ b → occurrences a (order s) ≡ digit b → T (declared t a) × (cellAt t s a < states)
+      go : (b : Bool) → hasStep t s a ≡ b → occurrences a (enabledAt t s) ≡ digit b → T (declared t a) × (cellAt t s a < states)
       go true e c =
           let (u, f) = is-some (automaton t .next s a) (rw e tt) in
           let (l, g) = when-of (ltb a 32) (decode states (cellAt t s a)) f in
@@ -108,8 +108,8 @@ module _ (t : Table) (name : List ℕ) (names final : List (List ℕ)) (w : Writ
       go false e c = absurd (omega arith)
 
   -- Each step once.
-  ordered-once : (s a : ℕ) → s < states → occurrences a (order s) ≤ 1
-  ordered-once s a h = rw (o .once s a h) (digit-few (hasStep t s a))
+  written-once : (s a : ℕ) → occurrences a (enabledAt t s) ≤ 1
+  written-once s a = rw (enabled-once t s a) (digit-few (hasStep t s a))
 
   module _ (text : ℕ) (h : Automaton) (l : List Signal) (room : ℕ) (fits : states * 32 ≤ room) (same-states : h .states ≡ states)
       (roles : (a : ℕ) → T (declared t a) → T (declared (tableOf h []) (numberIn names final a))) (all : namesIn l ≡ final) where
@@ -119,7 +119,7 @@ module _ (t : Table) (name : List ℕ) (names final : List (List ℕ)) (w : Writ
       pub header : a .header ≡ h
       pub signals : a .signals ≡ l
       pub size : length (a .cells) ≡ room
-      pub cells : Left (cellIn names final) (cellOf t) 65535 (Good t) (left order s xs) (λ i. getD (a .cells) i 65535)
+      pub cells : Left (cellIn names final) (cellOf t) 65535 (Good t) (left t s xs) (λ i. getD (a .cells) i 65535)
 
     record Row (s : ℕ) (xs : List ℕ) (a : Reading) : Type 0 where
       steps : Stepping s xs a
@@ -151,7 +151,7 @@ module _ (t : Table) (name : List ℕ) (names final : List (List ℕ)) (w : Writ
         good = (r .state, known)
 
         free : getD (a .cells) (cellIn names final k) 65535 ≡ 65535
-        free = left-blank (cellIn names final) (cellOf t) 65535 (Good t) (r .steps .cells) k good (omega (arith, left-here order s (x ∷ xs) x, occurrences-here x xs))
+        free = left-blank (cellIn names final) (cellOf t) 65535 (Good t) (r .steps .cells) k good (omega (arith, left-here t s (x ∷ xs) x, occurrences-here x xs))
 
         after : Reading
         after = record { place = Steps; header = a .header; signals = a .signals; cells = set (a .cells) (cellIn names final k) (cellAt t s x) }
@@ -172,7 +172,7 @@ module _ (t : Table) (name : List ℕ) (names final : List (List ℕ)) (w : Writ
             size = length-set (a .cells) (cellIn names final k) (cellAt t s x) ∙ r .steps .size;
             cells =
                 left-put (cellIn names final) (cellOf t) 65535 (Good t) k good (λ j g e. cell-apart j k g good e) (r .steps .cells)
-                (left-here order s xs x ∙ omega (arith, r .once x, occurrences-here x xs)) (λ j g d. left-other order s x xs j d)
+                (left-here t s xs x ∙ omega (arith, r .once x, occurrences-here x xs)) (λ j g d. left-other t s x xs j d)
                 (getD-set-same (a .cells) (cellIn names final k) (cellAt t s x) 65535 (omega (arith, r .steps .size, digits-lt (r .state) (number-lt t name names final w n x known))))
                 (λ j d. getD-set-other (a .cells) (cellIn names final k) j (cellAt t s x) 65535 d);
           };
@@ -181,16 +181,16 @@ module _ (t : Table) (name : List ℕ) (names final : List (List ℕ)) (w : Writ
           once = λ y. omega (arith, r .once y, occurrences-more y x xs);
         }
 
-    pub steps : (n s at : ℕ) (a : Reading) → s + n ≡ states → Stepping s (order s) a → Reaches text (stepRows order t names s n) at a (Stepping states (order states))
+    pub steps : (n s at : ℕ) (a : Reading) → s + n ≡ states → Stepping s (enabledAt t s) a → Reaches text (stepRows t names s n) at a (Stepping states (enabledAt t states))
     unfolding stepRows
     steps zero s at a e u = let f : s ≡ states = omega arith in record { end = a; runs = done; holds = rw f at u }
     steps (suc n) s at a e u =
-        let row : Row s (order s) a = record { steps = u; state = omega arith; members = λ x. ordered s x (omega arith); once = λ x. ordered-once s x (omega arith) } in
-        reaches-then text (reaches-all text (stepRow t names s) (Row s) (one s) (order s) at a row)
+        let row : Row s (enabledAt t s) a = record { steps = u; state = omega arith; members = λ x. written s x (omega arith); once = written-once s } in
+        reaches-then text (reaches-all text (stepRow t names s) (Row s) (one s) (enabledAt t s) at a row)
         (λ b r at. steps n (suc s) at b (omega arith) (record {
           stands = r .steps .stands;
           header = r .steps .header;
           signals = r .steps .signals;
           size = r .steps .size;
-          cells = left-same (cellIn names final) (cellOf t) 65535 (Good t) (λ k g. left-next order s k) (r .steps .cells);
+          cells = left-same (cellIn names final) (cellOf t) 65535 (Good t) (λ k g. left-next t s k) (r .steps .cells);
         }))

@@ -1,5 +1,4 @@
--- The round trip (the letter's demand 2), alone and together: all that the writer takes is read back the same, name for name, whatever order the
--- steps of a state have.
+-- The round trip (the letter's demand 2), alone and together: all that the writer takes is read back the same, name for name.
 use mathlib.Core.Path.{_≡_, refl, sym, ap, _∙_}
 use mathlib.Core.Logic.{_↔_}
 use mathlib.Core.Bool.{true, _||_}
@@ -7,18 +6,17 @@ use mathlib.Core.List.{List, []}
 use Prim.Native.Nat.{ℕ, _*_, _≤_, _<_}
 use native.Mathlib.Omega.{arith}
 use lib.Dec.{T}
-use lib.ListN.{length, getD, length-map, List·getD-map, take, drop}
-use lib.Seq.{take-at}
+use lib.ListN.{length, getD, length-map, List·getD-map, take}
 use Rattle.theory.specs.declared.Checked.the-variants.{Accepted}
 use Rattle.theory.specs.Table.{Table}
 use Rattle.theory.specs.Checks.{first, declared}
 use Rattle.theory.specs.Valid.{Valid}
 use Rattle.theory.proofs.Tests.{or-left, or-right}
 use Rattle.text.specs.Reading.{Reading, finished, readAlone, both, afterFirst, afterSecond, readBoth, tableRead}
-use Rattle.text.specs.Writing.{signals, nameOf, textWith, Order, writerChecks, textLength, bytesWith, Written}
+use Rattle.text.specs.Writing.{signals, nameOf, wholeText, writerChecks, textLength, writerBytes}
 use Rattle.text.specs.Lookup.{ample, nobody, declares, lookup, lookupNumber, lookupAlone, lookupNumberAlone}
 use Rattle.text.proofs.Occurrences.{those-few}
-use Rattle.text.proofs.Lengths.{text-length}
+use Rattle.text.proofs.Written.{written-text}
 use Rattle.text.proofs.Entries.{is-true}
 use Rattle.text.proofs.Accepted.{Sound, accepted, accepted-valid}
 use Rattle.roundtrip.specs.RoundTrip.{rank, rankOf, RoundTrip, namesOf, place, different, allNames, JointTrip}
@@ -47,61 +45,59 @@ module _ (t : Table) (name : List ℕ) (names : List (List ℕ)) (w : Writable t
   rank-number : (a : ℕ) → T (declared t a) → rank a (signals t) ≡ numberIn names (namesOf t names) a
   rank-number a d = sym (rank-place (nameOf names) a (signals t) (signals-distinct t w) (declared-in t a d))
 
-  module _ (order : ℕ → List ℕ) (o : Order t order) where
-    read-alone : (cells : ℕ) → t .header .states * 32 ≤ cells
-        → (st : Reading) × (readAlone cells (textWith order t name names) ≡ finished st) × Copy t names (namesOf t names) st
-    unfolding readAlone
-    read-alone cells fits =
-        let few : length (different [] (namesOf t names)) ≤ 32 = rw all-new signals-few in
-        rw all-new at (trip-from t name names w order o [] 1 cells fits few)
+  read-alone : (cells : ℕ) → t .header .states * 32 ≤ cells
+      → (st : Reading) × (readAlone cells (wholeText t name names) ≡ finished st) × Copy t names (namesOf t names) st
+  unfolding readAlone
+  read-alone cells fits =
+      let few : length (different [] (namesOf t names)) ≤ 32 = rw all-new signals-few in
+      rw all-new at (trip-from t name names w [] 1 cells fits few)
 
-    -- Looking a number up.
-    found-alone : (a : ℕ) → T (declared t a)
-        → (lookupAlone (textWith order t name names) (rank a (signals t)) .name ≡ nameOf names a)
-        × (lookupNumberAlone (textWith order t name names) (rank a (signals t)) ≡ 0)
-    unfolding lookupAlone lookupNumberAlone
-    found-alone a d =
-        let (st, e, c) = read-alone ample (omega (arith, w .valid .few-states)) in
-        let i = numberIn names (namesOf t names) a in
-        let h : declares st i ≡ true = is-true (declares st i) (copy-declares t names (namesOf t names) alone-numbered st c a d) in (
-          rw (e, rank-number a d, h) (copy-name t names (namesOf t names) alone-numbered st c a d),
-          rw (e, rank-number a d, h),
-        )
+  -- Looking a number up.
+  found-alone : (a : ℕ) → T (declared t a)
+      → (lookupAlone (wholeText t name names) (rank a (signals t)) .name ≡ nameOf names a)
+      × (lookupNumberAlone (wholeText t name names) (rank a (signals t)) ≡ 0)
+  unfolding lookupAlone lookupNumberAlone
+  found-alone a d =
+      let (st, e, c) = read-alone ample (omega (arith, w .valid .few-states)) in
+      let i = numberIn names (namesOf t names) a in
+      let h : declares st i ≡ true = is-true (declares st i) (copy-declares t names (namesOf t names) alone-numbered st c a d) in (
+        rw (e, rank-number a d, h) (copy-name t names (namesOf t names) alone-numbered st c a d),
+        rw (e, rank-number a d, h),
+      )
 
-    trip : (cells : ℕ) → t .header .states * 32 ≤ cells → RoundTrip t names cells (textWith order t name names)
-    unfolding readAlone
-    trip cells fits =
-        let (st, e, c) = read-alone cells fits in
-        record {
-          reading = st;
-          read = e;
-          again = record {
-            valid = accepted-valid [] cells st (accepted [] 1 cells (textWith order t name names) st (omega arith) e);
-            same =
-                copy-same t names (namesOf t names) alone-numbered st c (λ b. lookupAlone (textWith order t name names) b .name) (rankOf t)
-                rank-number (λ a d. found-alone a d .0);
-            found = λ a d. found-alone a d .1;
-          };
-        }
+  trip : (cells : ℕ) → t .header .states * 32 ≤ cells → RoundTrip t names cells (wholeText t name names)
+  unfolding readAlone
+  trip cells fits =
+      let (st, e, c) = read-alone cells fits in
+      record {
+        reading = st;
+        read = e;
+        again = record {
+          valid = accepted-valid [] cells st (accepted [] 1 cells (wholeText t name names) st (omega arith) e);
+          same =
+              copy-same t names (namesOf t names) alone-numbered st c (λ b. lookupAlone (wholeText t name names) b .name) (rankOf t)
+              rank-number (λ a d. found-alone a d .0);
+          found = λ a d. found-alone a d .1;
+        };
+      }
 
--- All that the writer takes is read back, in whatever order it writes the steps of a state.
+-- All that the writer takes is read back.
 pub round-trip : (t : Table) (name : List ℕ) (names : List (List ℕ)) (room : ℕ) → first (writerChecks t name names room) ≡ Accepted
-    → (order : ℕ → List ℕ) → Order t order → (cells : ℕ) → t .header .states * 32 ≤ cells → RoundTrip t names cells (textWith order t name names)
-round-trip t name names room e order o cells fits = trip t name names (writable t name names room e) order o cells fits
+    → (cells : ℕ) → t .header .states * 32 ≤ cells → RoundTrip t names cells (wholeText t name names)
+round-trip t name names room e cells fits = trip t name names (writable t name names room e) cells fits
 
 -- ---- a module's and a plan's text together
 
-module _ (m : Table) (name : List ℕ) (names : List (List ℕ)) (w : Writable m name names) (order : ℕ → List ℕ) (o : Order m order)
-    (p : Table) (name′ : List ℕ) (names′ : List (List ℕ)) (w′ : Writable p name′ names′) (order′ : ℕ → List ℕ) (o′ : Order p order′)
-    (few : length (allNames m names p names′) ≤ 32) where
+module _ (m : Table) (name : List ℕ) (names : List (List ℕ)) (w : Writable m name names)
+    (p : Table) (name′ : List ℕ) (names′ : List (List ℕ)) (w′ : Writable p name′ names′) (few : length (allNames m names p names′) ≤ 32) where
   abbrev all : List (List ℕ)
   all = allNames m names p names′
 
   abbrev text : List ℕ
-  text = textWith order m name names
+  text = wholeText m name names
 
   abbrev text′ : List ℕ
-  text′ = textWith order′ p name′ names′
+  text′ = wholeText p name′ names′
 
   second-numbered : Numbered p names′ all
   second-numbered = record { within = λ b d. number-within (nameOf names′) b (signals p) (namesOf m names) (declared-in p b d); few = few }
@@ -124,9 +120,9 @@ module _ (m : Table) (name : List ℕ) (names : List (List ℕ)) (w : Writable m
   read-both : (cells cells′ : ℕ) → m .header .states * 32 ≤ cells → p .header .states * 32 ≤ cells′ → Readings cells cells′
   unfolding readBoth readAlone
   read-both cells cells′ fits fits′ =
-      let (x, e, c) = read-alone m name names w order o cells fits in
+      let (x, e, c) = read-alone m name names w cells fits in
       let few′ : length (different (namesIn (x .signals)) (namesOf p names′)) ≤ 32 = rw (c .listed) few in
-      let (y, f, d) = trip-from p name′ names′ w′ order′ o′ (x .signals) 2 cells′ fits′ few′ in
+      let (y, f, d) = trip-from p name′ names′ w′ (x .signals) 2 cells′ fits′ few′ in
       let u : Sound [] cells x = accepted [] 1 cells text x (omega arith) e in
       record {
         first = x;
@@ -207,32 +203,22 @@ module _ (m : Table) (name : List ℕ) (names : List (List ℕ)) (w : Writable m
 pub joint-trip : (m : Table) (name : List ℕ) (names : List (List ℕ)) (room : ℕ) → first (writerChecks m name names room) ≡ Accepted
     → (p : Table) (name′ : List ℕ) (names′ : List (List ℕ)) (room′ : ℕ) → first (writerChecks p name′ names′ room′) ≡ Accepted
     → length (allNames m names p names′) ≤ 32
-    → (order order′ : ℕ → List ℕ) → Order m order → Order p order′
     → (cells cells′ : ℕ) → m .header .states * 32 ≤ cells → p .header .states * 32 ≤ cells′
-    → JointTrip m names p names′ cells cells′ (textWith order m name names) (textWith order′ p name′ names′)
-joint-trip m name names room e p name′ names′ room′ e′ few order order′ o o′ cells cells′ fits fits′ =
-    trip-both m name names (writable m name names room e) order o p name′ names′ (writable p name′ names′ room′ e′) order′ o′ few cells cells′ fits fits′
+    → JointTrip m names p names′ cells cells′ (wholeText m name names) (wholeText p name′ names′)
+joint-trip m name names room e p name′ names′ room′ e′ few cells cells′ fits fits′ =
+    trip-both m name names (writable m name names room e) p name′ names′ (writable p name′ names′ room′ e′) few cells cells′ fits fits′
 
 -- ---- by the writer's contract: what it leaves in the lent bytes
 
-written-text : (t : Table) (name : List ℕ) (names : List (List ℕ)) (bytes bytes′ : List ℕ) → first (writerChecks t name names (length bytes)) ≡ Accepted
-    → (w : Written t name names bytes bytes′) → take (textLength t name names) bytes′ ≡ textWith (w .order) t name names
-unfolding bytesWith
-written-text t name names bytes bytes′ e w =
-    rw (w .text, e) (take-at (textWith (w .order) t name names) (drop (textLength t name names) bytes) (textLength t name names)
-    (text-length t (w .order) name names (w .each-once)))
+pub written-trip : (t : Table) (name : List ℕ) (names : List (List ℕ)) (bytes : List ℕ) → first (writerChecks t name names (length bytes)) ≡ Accepted
+    → (cells : ℕ) → t .header .states * 32 ≤ cells → RoundTrip t names cells (take (textLength t name names) (writerBytes t name names bytes))
+written-trip t name names bytes e cells fits = rw (written-text t name names bytes e) (round-trip t name names (length bytes) e cells fits)
 
-pub written-trip : (t : Table) (name : List ℕ) (names : List (List ℕ)) (bytes bytes′ : List ℕ) → first (writerChecks t name names (length bytes)) ≡ Accepted
-    → Written t name names bytes bytes′ → (cells : ℕ) → t .header .states * 32 ≤ cells → RoundTrip t names cells (take (textLength t name names) bytes′)
-written-trip t name names bytes bytes′ e w cells fits =
-    rw (written-text t name names bytes bytes′ e w) (round-trip t name names (length bytes) e (w .order) (w .each-once) cells fits)
-
-pub written-joint-trip : (m : Table) (name : List ℕ) (names : List (List ℕ)) (bytes bytes′ : List ℕ) → first (writerChecks m name names (length bytes)) ≡ Accepted
-    → Written m name names bytes bytes′
-    → (p : Table) (name′ : List ℕ) (names′ : List (List ℕ)) (other other′ : List ℕ) → first (writerChecks p name′ names′ (length other)) ≡ Accepted
-    → Written p name′ names′ other other′
+pub written-joint-trip : (m : Table) (name : List ℕ) (names : List (List ℕ)) (bytes : List ℕ) → first (writerChecks m name names (length bytes)) ≡ Accepted
+    → (p : Table) (name′ : List ℕ) (names′ : List (List ℕ)) (bytes′ : List ℕ) → first (writerChecks p name′ names′ (length bytes′)) ≡ Accepted
     → length (allNames m names p names′) ≤ 32 → (cells cells′ : ℕ) → m .header .states * 32 ≤ cells → p .header .states * 32 ≤ cells′
-    → JointTrip m names p names′ cells cells′ (take (textLength m name names) bytes′) (take (textLength p name′ names′) other′)
-written-joint-trip m name names bytes bytes′ e w p name′ names′ other other′ f v few cells cells′ fits fits′ =
-    rw (written-text m name names bytes bytes′ e w, written-text p name′ names′ other other′ f v)
-    (joint-trip m name names (length bytes) e p name′ names′ (length other) f few (w .order) (v .order) (w .each-once) (v .each-once) cells cells′ fits fits′)
+    → JointTrip m names p names′ cells cells′ (take (textLength m name names) (writerBytes m name names bytes))
+    (take (textLength p name′ names′) (writerBytes p name′ names′ bytes′))
+written-joint-trip m name names bytes e p name′ names′ bytes′ e′ few cells cells′ fits fits′ =
+    rw (written-text m name names bytes e, written-text p name′ names′ bytes′ e′)
+    (joint-trip m name names (length bytes) e p name′ names′ (length bytes′) e′ few cells cells′ fits fits′)

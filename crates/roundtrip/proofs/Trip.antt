@@ -18,9 +18,9 @@ use Rattle.text.specs.declared.Place.the-variants.{Head, Declarations}
 use Rattle.text.specs.Fields.{split}
 use Rattle.text.specs.Lines.{byKind}
 use Rattle.text.specs.Reading.{Signal, Reading, next, entered, finished, isNil, readLines, fresh, readFrom}
-use Rattle.text.specs.Writing.{signals, nameOf, tabbed, printed, tableRow, signalRow, stepRows, textWith, occurrences, Order}
-use Rattle.text.proofs.Occurrences.{digit-few, occurrences-nil, those-once}
-use Rattle.text.proofs.Lengths.{text-length}
+use Rattle.text.specs.Writing.{signals, nameOf, tabbed, printed, tableRow, signalRow, stepRows, wholeText, enabledAt, textLength}
+use Rattle.text.proofs.Occurrences.{occurrences, digit-few, occurrences-nil, those-once}
+use Rattle.text.proofs.Written.{enabled-once}
 use Rattle.text.proofs.Roles.{rolesAt, member-none}
 use Rattle.text.proofs.Entries.{started-next}
 use Rattle.text.proofs.Accepted.{getD-blank}
@@ -73,7 +73,7 @@ pub record Copy (t : Table) (names final : List (List ℕ)) (st : Reading) : Typ
   pub cells : (k : Move) → Good t k → getD (st .cells) (cellIn names final k) 65535 ≡ cellOf t k
   pub blank : (i : ℕ) → ((k : Move) → Good t k → ¬ (cellIn names final k ≡ i)) → getD (st .cells) i 65535 ≡ 65535
 
-module _ (t : Table) (name : List ℕ) (names : List (List ℕ)) (w : Writable t name names) (order : ℕ → List ℕ) (o : Order t order)
+module _ (t : Table) (name : List ℕ) (names : List (List ℕ)) (w : Writable t name names)
     (l : List Signal) (text room : ℕ) (fits : t .header .states * 32 ≤ room) (few : length (different (namesIn l) (namesOf t names)) ≤ 32) where
   final : List (List ℕ)
   final = different (namesIn l) (namesOf t names)
@@ -112,8 +112,8 @@ module _ (t : Table) (name : List ℕ) (names : List (List ℕ)) (w : Writable t
     once = signals-distinct t w .once;
   }
 
-  -- A step that is not in the order is none.
-  no-step : (k : Move) → Good t k → left order 0 (order 0) k ≡ 0 → cellOf t k ≡ 65535
+  -- A step that is not written is none.
+  no-step : (k : Move) → Good t k → left t 0 (enabledAt t 0) k ≡ 0 → cellOf t k ≡ 65535
   no-step k (h, d) z = elim (w .valid .sound (k .0 * 32 + k .1) (digits-lt h low)) [
     | inl e ↦ e
     | inr l ↦ absurd (omega (arith, some l))
@@ -123,10 +123,10 @@ module _ (t : Table) (name : List ℕ) (names : List (List ℕ)) (w : Writable t
       low = table-narrow t (k .1) d
 
       some : cellOf t k < t .header .states → _≡_ {A = ℕ} 0 1
-      some l = sym z ∙ left-first order k ∙ o .once (k .0) (k .1) h ∙ rw (lt-ltb (k .1) 32 low, lt-ltb (cellOf t k) (t .header .states) l)
+      some l = sym z ∙ left-first t k ∙ enabled-once t (k .0) (k .1) ∙ rw (lt-ltb (k .1) 32 low, lt-ltb (cellOf t k) (t .header .states) l)
 
   steps-copy : (a : Reading) → Declaring t name names final w numbered (replicate room 65535) [] a → (at : ℕ)
-      → Reaches text (stepRows order t names 0 (t .header .states)) at a (Copy t names final)
+      → Reaches text (stepRows t names 0 (t .header .states)) at a (Copy t names final)
   unfolding different
   steps-copy a u at =
       let roles : (x : ℕ) → T (declared t x) → rolesAt (a .header) (numberIn names final x) ≡ rolesAt (t .header) x =
@@ -142,7 +142,7 @@ module _ (t : Table) (name : List ℕ) (names : List (List ℕ)) (w : Writable t
         cells = λ k g. left-none (cellIn names final) (cellOf t) 65535 (Good t) (v .cells) k g (rw (lt-ltb (k .0) (t .header .states) (g .0)));
         blank = v .cells .others;
       })
-      (steps t name names final w numbered order o text (a .header) (a .signals) room fits (u .states) known (u .all) (t .header .states) 0 at a (omega arith) (record {
+      (steps t name names final w numbered text (a .header) (a .signals) room fits (u .states) known (u .all) (t .header .states) 0 at a (omega arith) (record {
         stands = rw (u .stands);
         header = refl;
         signals = refl;
@@ -150,21 +150,21 @@ module _ (t : Table) (name : List ℕ) (names : List (List ℕ)) (w : Writable t
         cells = left-start (cellIn names final) (cellOf t) 65535 (Good t) (λ i. rw (u .cells) (getD-blank room i)) no-step;
       }))
 
-  copied : Reaches text (tableRow t name ∷ map (signalRow t names) (signals t) ++ stepRows order t names 0 (t .header .states)) 0 (fresh l room) (Copy t names final)
+  copied : Reaches text (tableRow t name ∷ map (signalRow t names) (signals t) ++ stepRows t names 0 (t .header .states)) 0 (fresh l room) (Copy t names final)
   copied =
       let u = reaches-then text (declarations t name names final w numbered text (replicate room 65535) (signals t) (0 + length (tabbed (tableRow t name)) + 1) begun declare) steps-copy in
       record { end = u .end; runs = goes (table-plain t name names w) enter (u .runs); holds = u .holds }
 
-  text-some : isNil (textWith order t name names) ≡ false
-  unfolding textWith printed tableRow tabbed
+  text-some : isNil (wholeText t name names) ≡ false
+  unfolding wholeText printed tableRow tabbed
   text-some = refl
 
-  text-lines : readLines text 1 0 (fresh l room) (split 10 (textWith order t name names)) ≡ finished (copied .end)
-  unfolding textWith
+  text-lines : readLines text 1 0 (fresh l room) (split 10 (wholeText t name names)) ≡ finished (copied .end)
+  unfolding wholeText
   text-lines = runs-read text 1 (copied .runs)
 
-  pub trip-from : (st : Reading) × (readFrom l text room (textWith order t name names) ≡ finished st) × Copy t names (different (namesIn l) (namesOf t names)) st
-  unfolding readFrom final
+  pub trip-from : (st : Reading) × (readFrom l text room (wholeText t name names) ≡ finished st) × Copy t names (different (namesIn l) (namesOf t names)) st
+  unfolding readFrom final textLength
   trip-from =
-      let short : length (textWith order t name names) ≤ 65536 = omega (arith, text-length t order name names o, w .short) in
-      (copied .end, rw (le-ltb 65536 (length (textWith order t name names)) short, text-some) text-lines, copied .holds)
+      let short : length (wholeText t name names) ≤ 65536 = w .short in
+      (copied .end, rw (le-ltb 65536 (length (wholeText t name names)) short, text-some) text-lines, copied .holds)

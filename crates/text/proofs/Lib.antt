@@ -1,7 +1,7 @@
 pub mod Split
 pub mod Decimal
 pub mod Occurrences
-pub mod Lengths
+pub mod Written
 pub mod Names
 pub mod Lines
 pub mod Roles

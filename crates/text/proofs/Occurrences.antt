@@ -9,9 +9,14 @@ use lib.Dec.{eqb, ltb}
 use lib.ListN.{length}
 use borrow.Author.Tests.{eq-eqb, ne-eqb, lt-ltb, le-ltb}
 use Rattle.theory.specs.Bounded.{digit}
-use Rattle.text.specs.Writing.{occurrences, those}
+use Rattle.text.specs.Writing.{those}
 
 -- ---- any list
+
+-- How often x stands in a list.
+unfoldable pub occurrences : ℕ → List ℕ → ℕ
+occurrences x [] = 0
+occurrences x (y ∷ l) = cond (eqb y x) (suc (occurrences x l)) (occurrences x l)
 
 pub occurrences-cons : (x y : ℕ) (l : List ℕ) → occurrences x (y ∷ l) ≡ digit (eqb y x) + occurrences x l
 unfolding occurrences

@@ -1,11 +1,10 @@
--- The text of a table (01, "Table text"), the steps of each state in any order, and why the writer turns a call away.
-use mathlib.Core.Path.{_≡_}
+-- The text of a table (01, "Table text"; 02, S-3), and why the writer turns a call away.
 use mathlib.Core.Bool.{Bool, not, _&&_, _||_, cond}
 use mathlib.Core.List.{List, [], _∷_, _++_, map}
-use Prim.Native.Nat.{ℕ, zero, suc, _+_, _/_, _%_, _<_}
-use lib.Dec.{eqb, ltb}
+use Prim.Native.Nat.{ℕ, zero, suc, _+_, _/_, _%_}
+use lib.Dec.{ltb}
 use lib.ListN.{length, getD, drop}
-use Rattle.theory.specs.Bounded.{any, digit}
+use Rattle.theory.specs.Bounded.{any}
 use Rattle.theory.specs.Closure.{isSome}
 use Rattle.theory.specs.Table.{Table, automaton, cellAt, member}
 use Rattle.theory.specs.Checks.{Check, unplaced, first, unlessRefused, declared, tableChecks}
@@ -66,34 +65,23 @@ signalRow t names a = roleWord (roleOf t a) ∷ nameOf names a ∷ []
 unfoldable pub stepRow : Table → List (List ℕ) → ℕ → ℕ → List (List ℕ)
 stepRow t names s a = stepWord ∷ decimal s ∷ nameOf names a ∷ decimal (cellAt t s a) ∷ []
 
--- The steps of the states from s on, n of them; those of one state in the order of signals that is given for it.
-unfoldable pub stepRows : (ℕ → List ℕ) → Table → List (List ℕ) → ℕ → ℕ → List (List (List ℕ))
-stepRows order t names s zero = []
-stepRows order t names s (suc n) = map (stepRow t names s) (order s) ++ stepRows order t names (suc s) n
-
--- The whole text: signals by ascending number, steps sorted by state of departure.
-unfoldable pub textWith : (ℕ → List ℕ) → Table → List ℕ → List (List ℕ) → List ℕ
-textWith order t name names =
-    printed (tableRow t name ∷ map (signalRow t names) (signals t) ++ stepRows order t names 0 (t .header .states))
-
--- ---- orders of the steps of a state
-
 -- The state s has a step by the signal a.
 abbrev pub hasStep : Table → ℕ → ℕ → Bool
 hasStep t s a = isSome (automaton t .next s a)
 
--- How often x stands in a list.
-unfoldable pub occurrences : ℕ → List ℕ → ℕ
-occurrences x [] = 0
-occurrences x (y ∷ l) = cond (eqb y x) (suc (occurrences x l)) (occurrences x l)
+-- The signals that are enabled at a state (001, Definition 1), by ascending number (02, S-3).
+unfoldable pub enabledAt : Table → ℕ → List ℕ
+enabledAt t s = those (hasStep t s) 0 32
 
--- What 01 leaves open: an order for each state, in which each signal that has a step there stands exactly once, and no other.
-pub record Order (t : Table) (order : ℕ → List ℕ) : Type 0 where
-  pub once : (s a : ℕ) → s < t .header .states → occurrences a (order s) ≡ digit (hasStep t s a)
+-- The steps of the states from s on, n of them.
+unfoldable pub stepRows : Table → List (List ℕ) → ℕ → ℕ → List (List (List ℕ))
+stepRows t names s zero = []
+stepRows t names s (suc n) = map (stepRow t names s) (enabledAt t s) ++ stepRows t names (suc s) n
 
--- One such order: by ascending signal. The length of the text is the same in all.
-unfoldable pub ascending : Table → ℕ → List ℕ
-ascending t s = those (hasStep t s) 0 32
+-- The whole text: signals by ascending number; steps by state of departure, and those of one state by ascending signal.
+unfoldable pub wholeText : Table → List ℕ → List (List ℕ) → List ℕ
+wholeText t name names =
+    printed (tableRow t name ∷ map (signalRow t names) (signals t) ++ stepRows t names 0 (t .header .states))
 
 -- ---- the writer's checks: 1 to 6, 16 (table name, then signals), 18 for equal signal names, 23
 
@@ -107,7 +95,7 @@ module _ (t : Table) (name : List ℕ) (names : List (List ℕ)) where
   ambiguous = any 32 (λ a. any a (λ b. (declared t a && declared t b) && same (nameOf names a) (nameOf names b)))
 
   unfoldable pub textLength : ℕ
-  textLength = length (textWith (ascending t) t name names)
+  textLength = length (wholeText t name names)
 
   -- The text is longer than the lent buffer or than 65,536 bytes.
   abbrev pub tooLong : ℕ → Bool
@@ -117,13 +105,6 @@ module _ (t : Table) (name : List ℕ) (names : List (List ℕ)) where
   writerChecks room =
       tableChecks 1 t ++ (unplaced 16 0 (not (nameOk name)) ∷ unplaced 16 0 misnamed ∷ unplaced 18 0 ambiguous ∷ unplaced 23 0 (tooLong room) ∷ [])
 
-  -- The lent bytes after the call, with the steps in the given order: the text, then the bytes as they were; all of them after a refusal.
-  unfoldable pub bytesWith : (ℕ → List ℕ) → List ℕ → List ℕ
-  bytesWith order bytes =
-      unlessRefused (first (writerChecks (length bytes))) (λ r. bytes) (textWith order t name names ++ drop textLength bytes)
-
-  -- The contract of the bytes: in some such order.
-  pub record Written (bytes bytes′ : List ℕ) : Type 0 where
-    pub order : ℕ → List ℕ
-    pub each-once : Order t order
-    pub text : bytes′ ≡ bytesWith order bytes
+  -- The lent bytes after the call: the text, then the bytes as they were; all of them after a refusal.
+  unfoldable pub writerBytes : List ℕ → List ℕ
+  writerBytes bytes = unlessRefused (first (writerChecks (length bytes))) (λ r. bytes) (wholeText t name names ++ drop textLength bytes)

@@ -21,9 +21,9 @@ use Rattle.theory.specs.Checks.{declared}
 use Rattle.theory.specs.Valid.{Valid}
 use Rattle.theory.proofs.Filled.{any-default}
 use Rattle.sets.proofs.Visit.{low}
-use Rattle.text.specs.Writing.{printed, those, signals, nameOf, tableRow, signalRow, stepRow, stepRows, textWith, hasStep, ascending}
+use Rattle.text.specs.Writing.{printed, those, signals, nameOf, tableRow, signalRow, stepRow, stepRows, wholeText, hasStep, enabledAt}
 use Rattle.text.proofs.Entries.{is-true}
-use Rattle.text.proofs.Lengths.{printed-append}
+use Rattle.text.proofs.Written.{printed-append}
 use Rattle.emit.specs.Rows.{tableText, signalText, stepText}
 use Rattle.emit.proofs.Buffer.{Puts, puts-none, puts-then}
 use Rattle.names.specs.Names.{texts, Named}
@@ -107,7 +107,7 @@ module _ (n : ℕ) (cells : List ℕ) (names : List (List ℕ)) where
 
   -- The signals of a writable table have all its steps.
   pub steps-by : (state signals : ℕ) → Writable n cells signals names → state < n → stateLines n cells names state ≡ stepsBy state signals
-  unfolding stepsBy ascending
+  unfolding stepsBy enabledAt
   steps-by state signals w h =
       ap (λ (l : List ℕ). printed (map (stepRow t names state) l))
       (those-same (hasStep t state) (λ a. has signals a && hasStep t state a) 0 32 (λ a z k. known a (omega arith))
@@ -121,13 +121,13 @@ module _ (n : ℕ) (cells : List ℕ) (names : List (List ℕ)) where
 
   -- The steps of the states from s on.
   abbrev pub rowsFrom : ℕ → List ℕ
-  rowsFrom s = printed (stepRows (ascending t) t names s (n - s))
+  rowsFrom s = printed (stepRows t names s (n - s))
 
   pub rows-next : (s : ℕ) → s < n → rowsFrom s ≡ stateLines n cells names s ++ rowsFrom (s + 1)
   unfolding stepRows
   rows-next s h =
       let e : n - s ≡ suc (n - (s + 1)) = omega arith in
-      rw (e, add-one s) (printed-append (map (stepRow t names s) (ascending t s)) (stepRows (ascending t) t names (suc s) (n - suc s)))
+      rw (e, add-one s) (printed-append (map (stepRow t names s) (enabledAt t s)) (stepRows t names (suc s) (n - suc s)))
 
   pub rows-all : stepLines n cells names ≡ rowsFrom 0
   rows-all = let e : n - 0 ≡ n = omega arith in rw e
@@ -158,21 +158,21 @@ module _ (a : Automaton) (cells : List ℕ) (names : List (List ℕ)) where
       ap (λ (l : List ℕ). printed (map (signalRow (table a cells) names) l))
       (those-same (declared (table a cells)) (has acts) 0 32 (λ x l h. declared-has a cells x (omega arith)))
 
-  all-steps : (s n : ℕ) → stepRows (ascending (table a cells)) (table a cells) names s n
-      ≡ stepRows (ascending (steps (a .states) cells)) (steps (a .states) cells) names s n
-  unfolding stepRows ascending stepRow
+  all-steps : (s n : ℕ) → stepRows (table a cells) names s n
+      ≡ stepRows (steps (a .states) cells) names s n
+  unfolding stepRows enabledAt stepRow
   all-steps s zero = refl
   all-steps s (suc n) = rw (all-steps (suc s) n)
 
   module _ (name : List ℕ) where
     abbrev text : List ℕ
-    text = textWith (ascending (table a cells)) (table a cells) name names
+    text = wholeText (table a cells) name names
 
     pub text-parts : text ≡ (tableText name (a .states) (a .initial) ++ signalLines acts (a .inputs) names) ++ stepLines (a .states) cells names
-    unfolding textWith tableRow
+    unfolding wholeText tableRow
     text-parts =
         printed-append (tableRow (table a cells) name ∷ map (signalRow (table a cells) names) (signals (table a cells)))
-        (stepRows (ascending (table a cells)) (table a cells) names 0 (a .states))
+        (stepRows (table a cells) names 0 (a .states))
         ∙ rw (printed-append (tableRow (table a cells) name ∷ []) (map (signalRow (table a cells) names) (signals (table a cells))))
         (rw (all-signals, all-steps 0 (a .states)))
 

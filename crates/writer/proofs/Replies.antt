@@ -16,8 +16,7 @@ use Rattle.theory.specs.Table.{Table, table}
 use Rattle.theory.specs.Checks.{first, tableChecks}
 use Rattle.theory.specs.Valid.{Valid}
 use Rattle.theory.proofs.Checks.{first-refused, first-accepted, first-part, checks-valid}
-use Rattle.text.specs.Writing.{textWith, ascending, textLength, writerChecks, bytesWith, Written}
-use Rattle.text.proofs.Lengths.{ascending-order}
+use Rattle.text.specs.Writing.{wholeText, textLength, writerChecks, writerBytes}
 use Rattle.emit.proofs.Buffer.{Puts, stored-front}
 use Rattle.names.specs.Names.{Named, nameChecks}
 use Rattle.names.proofs.Checks.{passed-named, passed-short}
@@ -40,7 +39,7 @@ module _ (t : Table) (name : List ℕ) (names : List (List ℕ)) where
   -- ---- 23, and the text
 
   abbrev text : List ℕ
-  text = textWith (ascending t) t name names
+  text = wholeText t name names
 
   module _ (out : List ℕ) (n : ℕ) (size : n ≡ textLength t name names) where
     -- The call is refused by 23, and the lent bytes are as they were.
@@ -75,10 +74,6 @@ module _ (t : Table) (name : List ℕ) (names : List (List ℕ)) where
   unfolding writerChecks checksBefore nameChecks lengthCheck
   split room = ap first (sym (append-assoc (tableChecks 1 t) (nameChecks (t .header) name names) (lengthCheck t name names room)))
 
-  -- Steps by ascending signal are one of the orders.
-  written : (bytes bytes′ : List ℕ) → bytes′ ≡ bytesWith t name names (ascending t) bytes → Written t name names bytes bytes′
-  written bytes bytes′ e = record { order = ascending t; each-once = ascending-order t; text = e }
-
   module _ (k : Checked) (checked : k ≡ first (checksBefore t name names)) (bytes : List ℕ) where
     module _ (r : Refusal) (no : k ≡ Refused r) where
       refused : first (writerChecks t name names (length bytes)) ≡ Refused r
@@ -88,9 +83,9 @@ module _ (t : Table) (name : List ℕ) (names : List (List ℕ)) where
       unfolding writerReply
       write-refused = rw refused
 
-      pub write-kept : Written t name names bytes bytes
-      unfolding bytesWith
-      write-kept = written bytes bytes (rw refused)
+      pub write-kept : bytes ≡ writerBytes t name names bytes
+      unfolding writerBytes
+      write-kept = rw refused
 
     module _ (yes : k ≡ Accepted) where
       pub write-valid : Valid t
@@ -112,6 +107,6 @@ module _ (t : Table) (name : List ℕ) (names : List (List ℕ)) where
       unfolding writerReply printReply
       write-printed x e = rw only e
 
-      pub write-text : (bytes′ : List ℕ) → bytes′ ≡ printBytes t name names bytes → Written t name names bytes bytes′
-      unfolding bytesWith printBytes
-      write-text bytes′ e = written bytes bytes′ (rw only e)
+      pub write-text : (bytes′ : List ℕ) → bytes′ ≡ printBytes t name names bytes → bytes′ ≡ writerBytes t name names bytes
+      unfolding writerBytes printBytes
+      write-text bytes′ e = rw only e

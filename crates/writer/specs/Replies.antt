@@ -4,7 +4,7 @@ use Prim.Native.Nat.{ℕ}
 use lib.ListN.{length, drop}
 use Rattle.theory.specs.Table.{Table}
 use Rattle.theory.specs.Checks.{Check, unplaced, first, unlessRefused, tableChecks}
-use Rattle.text.specs.Writing.{textWith, ascending, textLength, tooLong, writerChecks}
+use Rattle.text.specs.Writing.{wholeText, textLength, tooLong, writerChecks}
 use Rattle.names.specs.Names.{nameChecks}
 use Rattle.writer.specs.declared.Printed.{Printed}
 use Rattle.writer.specs.declared.Printed.the-variants as reply
@@ -25,4 +25,4 @@ printReply t name names room = unlessRefused (first (lengthCheck t name names ro
 
 unfoldable pub printBytes : Table → List ℕ → List (List ℕ) → List ℕ → List ℕ
 printBytes t name names bytes =
-    unlessRefused (first (lengthCheck t name names (length bytes))) (λ r. bytes) (textWith (ascending t) t name names ++ drop (textLength t name names) bytes)
+    unlessRefused (first (lengthCheck t name names (length bytes))) (λ r. bytes) (wholeText t name names ++ drop (textLength t name names) bytes)

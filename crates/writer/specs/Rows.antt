@@ -7,7 +7,7 @@ use lib.Dec.{T, ltb}
 use lib.ListN.{length, getD}
 use Rattle.theory.specs.Sets.{has}
 use Rattle.theory.specs.Table.{Table, table}
-use Rattle.text.specs.Writing.{printed, those, signalRow, stepRow, stepRows, ascending}
+use Rattle.text.specs.Writing.{printed, those, signalRow, stepRow, stepRows, enabledAt}
 use Rattle.emit.specs.Rows.{stepText}
 use Rattle.names.specs.Names.{Named}
 
@@ -25,10 +25,10 @@ abbrev pub steps : ℕ → List ℕ → Table
 steps n cells = table (record { states = n; initial = 0; inputs = 0; outputs = 0 }) cells
 
 abbrev pub stateLines : ℕ → List ℕ → List (List ℕ) → ℕ → List ℕ
-stateLines n cells names s = printed (map (stepRow (steps n cells) names s) (ascending (steps n cells) s))
+stateLines n cells names s = printed (map (stepRow (steps n cells) names s) (enabledAt (steps n cells) s))
 
 abbrev pub stepLines : ℕ → List ℕ → List (List ℕ) → List ℕ
-stepLines n cells names = printed (stepRows (ascending (steps n cells)) (steps n cells) names 0 n)
+stepLines n cells names = printed (stepRows (steps n cells) names 0 n)
 
 -- All cells are there, the signal of every step is among the signals, and each of these has an entry.
 pub record Writable (n : ℕ) (cells : List ℕ) (signals : ℕ) (names : List (List ℕ)) : Type 0 where

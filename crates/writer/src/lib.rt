@@ -6,7 +6,7 @@ ghost use lib.ListN.{length};
 ghost use Rattle.theory.specs.Table.{table};
 ghost use Rattle.theory.specs.Valid.{Valid};
 ghost use Rattle.theory.specs.Checks.{first};
-ghost use Rattle.text.specs.Writing.{Written};
+ghost use Rattle.text.specs.Writing.{writerBytes};
 ghost use Rattle.names.specs.Names.{texts, Named};
 ghost use Rattle.writer.specs.Replies.{checksBefore, printReply, printBytes, writerReply};
 use theory::Automaton;
@@ -55,7 +55,7 @@ fn print(out: &mut [u8], a: Automaton, cells: &[u16], name: &[u8], names: &[&[u8
 // Writes the text of a table with its name and a name for each declared signal; bytes past the text stay.
 pub fn write(a: Automaton, cells: &[u16], name: &[u8], names: &[&[u8]], out: &mut [u8]) -> Printed
     ensures { λ r. ⌜ r ≡ writerReply (table a (now (cells .entry))) (now (name .entry)) (texts (now (names .entry))) (length (now (out .entry))) ⌝ }
-    ensures { λ r. ⌜ Written (table a (now (cells .entry))) (now (name .entry)) (texts (now (names .entry))) (now (out .entry)) (now (out .exit)) ⌝ }
+    ensures { λ r. ⌜ now (out .exit) ≡ writerBytes (table a (now (cells .entry))) (now (name .entry)) (texts (now (names .entry))) (now (out .entry)) ⌝ }
 {
     match check(a, cells, name, names) {
         Checked::Refused(r) => Printed::Refused(r),

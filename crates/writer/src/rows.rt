@@ -5,7 +5,7 @@ ghost use lib.Bits.{bitOr};
 ghost use lib.ListN.{length};
 ghost use Rattle.theory.specs.Table.{table};
 ghost use Rattle.theory.specs.Valid.{Valid};
-ghost use Rattle.text.specs.Writing.{textWith, ascending, nameOf};
+ghost use Rattle.text.specs.Writing.{wholeText, nameOf};
 ghost use Rattle.emit.specs.Buffer.{after, stored};
 ghost use Rattle.names.specs.Names.{texts, Named};
 ghost use Rattle.writer.specs.Rows.{signalLines, cellText, stateLines, stepLines, Writable};
@@ -99,8 +99,8 @@ fn step_lines(
 pub fn text(d: &mut [u8], a: Automaton, cells: &[u16], name: &[u8], names: &[&[u8]]) -> usize
     requires { ⌜ Valid (table a (now cells)) ⌝ }
     requires { ⌜ Named (bitOr (a .inputs) (a .outputs)) (texts (now names)) ⌝ }
-    ensures { λ r. ⌜ r ≡ after (length (now (d .entry))) 0 (textWith (ascending (table a (now (cells .entry)))) (table a (now (cells .entry))) (now (name .entry)) (texts (now (names .entry)))) ⌝ }
-    ensures { λ r. ⌜ now (d .exit) ≡ stored (now (d .entry)) 0 (textWith (ascending (table a (now (cells .entry)))) (table a (now (cells .entry))) (now (name .entry)) (texts (now (names .entry)))) ⌝ }
+    ensures { λ r. ⌜ r ≡ after (length (now (d .entry))) 0 (wholeText (table a (now (cells .entry))) (now (name .entry)) (texts (now (names .entry)))) ⌝ }
+    ensures { λ r. ⌜ now (d .exit) ≡ stored (now (d .entry)) 0 (wholeText (table a (now (cells .entry))) (now (name .entry)) (texts (now (names .entry)))) ⌝ }
 {
     let i = emit::table_line(d, 0, name, a.states, a.initial);
     let signals = automaton::declared(a);

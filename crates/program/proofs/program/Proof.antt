@@ -1,4 +1,3 @@
-use native.Mathlib.Omega.{arith}
 use Rattle.program.proofs.Files.{first-unread, second-unread, both-read}
 use borrow.Author.Needs.{needs}
 use Rattle.program.proofs.program.Statement.{statement}
@@ -24,8 +23,7 @@ same-length c = search needs
 returns : tie.Need-returns
 returns c =
     let f = c .before .before in
-    let e = f .refusal-line .ensures in
-    (first-unread _ _ _ _ _ _ _ _ _ _ _ (f .before .before .enum-told .given .1) (e .0, e .1 .0), omega (arith, e .1 .1))
+    first-unread _ _ _ _ _ _ _ _ _ _ _ (f .before .before .enum-told .given .1) (f .refusal-line .ensures)
 
 enum-known-second : tie.Need-enum-known-second
 enum-known-second c = search needs
@@ -43,8 +41,7 @@ returns-2 : tie.Need-returns-2
 returns-2 c =
     let f = c .before .before in
     let t = f .before .before in
-    let e = f .refusal-line2 .ensures in
-    (second-unread _ _ _ _ _ _ _ _ _ _ _ _ (t .before .before .before .first .given .1) (t .enum-told2 .given .1) (e .0, e .1 .0), omega (arith, e .1 .1))
+    second-unread _ _ _ _ _ _ _ _ _ _ _ _ (t .before .before .before .first .given .1) (t .enum-told2 .given .1) (f .refusal-line2 .ensures)
 
 before-requires : tie.Need-before-requires
 before-requires c κs = search needs
@@ -75,11 +72,8 @@ returns-3 c =
     let f = c .before .before .before .before .before .before .before .before .before .before in
     let q = f .before .before .before .before .before .before in
     let s = q .before .before .before in
-    let e = f .report .ensures in (
-      both-read _ _ _ _ _ _ _ _ _ _ _ _ _ (s .before .before .before .first .given .1) (s .second .given .1) _ _ (q .before .before2 .ensures .0)
-          (q .before3 .ensures .0) _ _ _ _ (e .0),
-      e .1,
-    )
+    both-read _ _ _ _ _ _ _ _ _ _ _ _ _ (s .before .before .before .first .given .1) (s .second .given .1) _ _ (q .before .before2 .ensures .0)
+    (q .before3 .ensures .0) _ (f .report .ensures)
 
 pub program-spec : {M : Type 1} → statement M
 program-spec =

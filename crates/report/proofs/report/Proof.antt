@@ -1,6 +1,5 @@
 use denote.Ref.{now}
-use Rattle.report.proofs.Whole.{holds-both, told-refused, told-made}
-use Rattle.report.proofs.Short.{report-ends}
+use Rattle.report.proofs.Whole.{holds-both, reading-refused, report-made}
 use borrow.Author.Needs.{needs}
 use Rattle.report.proofs.report.Statement.{statement}
 use Rattle.report.proofs.report.Tie as tie
@@ -51,8 +50,7 @@ returns c =
     let f = c .before .before in
     let k = f .before .before .before in
     let r = k .before .before .before .before .before .before .read-together .ensures in
-    let t = told-refused _ _ _ _ _ _ _ (r .0) (r .1 .0) (r .1 .1) _ (k .r .given .1) _ _ _ _ _ (f .refusal-line .ensures .0, f .refusal-line .ensures .1 .0) in
-    (t, report-ends (t .told))
+    reading-refused _ _ _ _ _ _ _ (r .0) (r .1 .0) (r .1 .1) _ (k .r .given .1) _ _ _ _ _ (f .refusal-line .ensures .0, f .refusal-line .ensures .1 .0)
 
 same-length-4 : tie.Need-same-length-4
 same-length-4 c = search needs
@@ -76,8 +74,7 @@ returns-2 c =
     let h = g .before .before .before .before .before .before .before .before in
     let k = h .before .before .before .before .before .before .before in
     let r = k .before .before .before .before .before .before .read-together .ensures in
-    let t = told-made _ _ _ _ _ _ _ (r .0) (r .1 .0) (r .1 .1) _ _ (k .component .given .1) _ _ _ _ _ _ _ _ (h .make-in .ensures) _ _ (g .clear-if .ensures) (f .clear-if2 .ensures) in
-    (t, report-ends (t .told))
+    report-made _ _ _ _ _ _ _ (r .0) (r .1 .0) (r .1 .1) _ _ (k .component .given .1) _ _ _ _ _ _ _ _ (h .make-in .ensures) _ _ (g .clear-if .ensures) (f .clear-if2 .ensures)
 
 pub report-spec : {M : Type 1} → statement M
 report-spec =

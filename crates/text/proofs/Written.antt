@@ -1,0 +1,109 @@
+-- What the text of a table says of its order (02, S-3): signals and the steps of a state stand by ascending number, each once; and equal tables,
+-- names and numbering have equal texts.
+use mathlib.Core.Path.{_≡_, refl, sym, ap, _∙_}
+use mathlib.Core.Bool.{Bool, true, false, _&&_, cond}
+use mathlib.Core.List.{List, [], _∷_, _++_, map, append-assoc}
+use mathlib.Core.Option.{Option, none}
+use Prim.Native.Nat.{ℕ, zero, suc, _+_, _≤_, _<_}
+use native.Mathlib.Omega.{arith}
+use lib.Dec.{T, ltb}
+use lib.ListN.{length, take, drop}
+use lib.Seq.{take-at}
+use Rattle.theory.specs.declared.Checked.the-variants.{Accepted}
+use Rattle.theory.specs.Bounded.{digit}
+use Rattle.theory.specs.Closure.{isSome}
+use Rattle.theory.specs.Table.{Table, automaton, cellAt, decode}
+use Rattle.theory.specs.Checks.{first, declared}
+use Rattle.theory.specs.Valid.{Valid}
+use Rattle.theory.proofs.Options.{is-some}
+use Rattle.text.specs.Writing.{tabbed, printed, those, signals, nameOf, tableRow, signalRow, stepRow, stepRows, wholeText, hasStep, enabledAt, writerChecks, textLength, writerBytes}
+use Rattle.text.proofs.Occurrences.{occurrences, those-once}
+
+-- ---- lines
+
+pub printed-append : (ls ms : List (List (List ℕ))) → printed (ls ++ ms) ≡ printed ls ++ printed ms
+unfolding printed
+printed-append [] ms = refl
+printed-append (l ∷ ls) ms = rw (printed-append ls ms) (sym (append-assoc (tabbed l) (10 ∷ printed ls) (printed ms)))
+
+-- ---- the order
+
+-- Numbers in ascending order, none twice and none below s.
+unfoldable pub Ascending : ℕ → List ℕ → Type 0
+Ascending s [] = Unit {0}
+Ascending s (x ∷ l) = (s ≤ x) × Ascending (suc x) l
+
+ascending-from : (s : ℕ) (l : List ℕ) → Ascending (suc s) l → Ascending s l
+unfolding Ascending
+ascending-from s [] a = a
+ascending-from s (x ∷ l) (h, a) = (omega arith, a)
+
+pub those-ascending : (f : ℕ → Bool) (s n : ℕ) → Ascending s (those f s n)
+unfolding those Ascending
+those-ascending f s zero = tt
+those-ascending f s (suc n) =
+    let l = those f (suc s) n in
+    let rest : Ascending (suc s) l = those-ascending f (suc s) n in
+    elim (f s) as (λ b. Ascending s (cond b (s ∷ l) l)) [ true ↦ (omega arith, rest) | false ↦ ascending-from s l rest ]
+
+module _ (t : Table) where
+  pub signals-ascending : Ascending 0 (signals t)
+  unfolding signals
+  signals-ascending = those-ascending (declared t) 0 32
+
+  pub enabled-ascending : (s : ℕ) → Ascending 0 (enabledAt t s)
+  unfolding enabledAt
+  enabled-ascending s = those-ascending (hasStep t s) 0 32
+
+  -- Each step of a state stands there once, and no other.
+  pub enabled-once : (s a : ℕ) → occurrences a (enabledAt t s) ≡ digit (hasStep t s a)
+  unfolding enabledAt
+  enabled-once s a = those-once (hasStep t s) a 32 ∙ go (ltb a 32) (decode (t .header .states) (cellAt t s a))
+    where
+      go : (b : Bool) (o : Option ℕ) → digit (b && isSome (cond b o none)) ≡ digit (isSome (cond b o none))
+      go true o = refl
+      go false o = refl
+
+-- ---- equal texts
+
+those-map : {A : Type 0} (f : ℕ → Bool) (g h : ℕ → A) → ((a : ℕ) → T (f a) → g a ≡ h a) → (s n : ℕ) → map g (those f s n) ≡ map h (those f s n)
+unfolding those
+those-map f g h e s zero = refl
+those-map f g h e s (suc n) = go (f s) refl (those f (suc s) n) (those-map f g h e (suc s) n)
+  where
+    go : (b : Bool) → f s ≡ b → (l : List ℕ) → map g l ≡ map h l → map g (cond b (s ∷ l) l) ≡ map h (cond b (s ∷ l) l)
+    go true q l rest = rw (e s (rw q tt), rest)
+    go false q l rest = rest
+
+module _ (t : Table) (valid : Valid t) (names names′ : List (List ℕ)) (agree : (a : ℕ) → T (declared t a) → nameOf names a ≡ nameOf names′ a) where
+  signals-same : map (signalRow t names) (signals t) ≡ map (signalRow t names′) (signals t)
+  unfolding signals signalRow
+  signals-same = those-map (declared t) (signalRow t names) (signalRow t names′) (λ a d. rw (agree a d)) 0 32
+
+  steps-same : (s : ℕ) → s < t .header .states → map (stepRow t names s) (enabledAt t s) ≡ map (stepRow t names′ s) (enabledAt t s)
+  unfolding enabledAt stepRow
+  steps-same s h = those-map (hasStep t s) (stepRow t names s) (stepRow t names′ s) (λ a k.
+      let (u, e) = is-some (automaton t .next s a) k in
+      rw (agree a (valid .known s a u h e))) 0 32
+
+  rows-same : (s n : ℕ) → s + n ≤ t .header .states → stepRows t names s n ≡ stepRows t names′ s n
+  unfolding stepRows
+  rows-same s zero h = refl
+  rows-same s (suc n) h = rw (steps-same s (omega arith), rows-same (suc s) n (omega arith))
+
+  text-same : (name : List ℕ) → wholeText t name names ≡ wholeText t name names′
+  unfolding wholeText
+  text-same name = rw (signals-same, rows-same 0 (t .header .states) (omega arith))
+
+-- Equal tables, names and numbering have equal texts. Of the names only those of declared signals are looked at.
+pub same-texts : (t u : Table) (name name′ : List ℕ) (names names′ : List (List ℕ)) → Valid t → t ≡ u → name ≡ name′
+    → ((a : ℕ) → T (declared t a) → nameOf names a ≡ nameOf names′ a) → wholeText t name names ≡ wholeText u name′ names′
+same-texts t u name name′ names names′ valid e f agree = text-same t valid names names′ agree name ∙ (λ i. wholeText (e i) (f i) names′)
+
+-- ---- the lent bytes
+
+-- They begin with the text, where the writer takes the call.
+pub written-text : (t : Table) (name : List ℕ) (names : List (List ℕ)) (bytes : List ℕ) → first (writerChecks t name names (length bytes)) ≡ Accepted
+    → take (textLength t name names) (writerBytes t name names bytes) ≡ wholeText t name names
+unfolding writerBytes textLength
+written-text t name names bytes e = rw e (take-at (wholeText t name names) (drop (length (wholeText t name names)) bytes) (length (wholeText t name names)) refl)
