@@ -8,7 +8,6 @@ use crate::random_texts::{borrowed, good_names, text_pair};
 use crate::reply::Reply;
 use crate::table::{has, members, Table, NO_STEP, SIGNALS};
 use crate::tally::Tally;
-use crate::writer::up_to_order;
 use crate::{archive, places, text, writer};
 
 /// Room for the text of a sequencer with the six lines before it.
@@ -120,13 +119,7 @@ fn compare_writing(tally: &mut Tally, r: &mut Random, what: &str) {
     if let Some(cell) = reply.bad_cell() {
         places::record(tally, &seen, cell, &table);
     }
-    let text = actual.part()[..answer.value.min(room)].to_vec();
-    let same_text = up_to_order(&text) == up_to_order(&expected.part()[..reply.value]);
-    // The order within a state is open, so the expected order is put in place of the other: all other bytes are compared as they are.
-    if same_text {
-        actual.part()[..reply.value].copy_from_slice(&expected.part()[..reply.value]);
-    }
-    tally.check(reply == answer && same_text && expected == actual, || {
+    tally.check(reply == answer && expected == actual, || {
         let names: Vec<String> = names.iter().map(|name| shown(name)).collect();
         format!(
             "{what}: write, {room} bytes lent\n  {table:?}\n  {} {names:?}\n  expected {reply:?}\n  is       {answer:?}\n  bytes {:?}",
@@ -134,7 +127,8 @@ fn compare_writing(tally: &mut Tally, r: &mut Random, what: &str) {
         )
     });
     if answer.number == 0 {
-        tally.check(reads_again(&table, &names, &text), || format!("{what}: written and read again\n  {table:?}\n  {}", shown(&text)));
+        let text = &actual.part()[..answer.value.min(room)];
+        tally.check(reads_again(&table, &names, text), || format!("{what}: written and read again\n  {table:?}\n  {}", shown(text)));
     }
 }
 
@@ -221,14 +215,13 @@ fn compare_report(tally: &mut Tally, r: &mut Random, what: &str) {
     };
     let mut expected = Buffers::arbitrary(r, &room);
     let mut actual = expected.clone();
-    let mut out = vec![0; REPORT_BYTES];
+    let (mut expected_out, mut out) = (vec![0; REPORT_BYTES], vec![0; REPORT_BYTES]);
     let text = program::report(&module, &plan, &mut expected);
-    let length = archive::report(&module, &plan, &mut actual, &mut out).min(REPORT_BYTES);
-    let (printed, rest) = out.split_at(length);
+    expected_out[..text.len()].copy_from_slice(&text);
+    let length = archive::report(&module, &plan, &mut actual, &mut out);
     tally.saw(&format!("report: {}", headline(&text)));
-    let same_text = up_to_order(&text) == up_to_order(printed) && rest.iter().all(|&byte| byte == 0);
-    tally.check(same_text && expected == actual, || {
-        let (module, plan, text, printed) = (shown(&module), shown(&plan), shown(&text), shown(printed));
+    tally.check(length == text.len() && out == expected_out && expected == actual, || {
+        let (module, plan, text, printed) = (shown(&module), shown(&plan), shown(&text), shown(&out[..length.min(REPORT_BYTES)]));
         let buffers = expected.differences(&actual);
         format!("{what}: report\n  {module}\n  {plan}\n  expected {text}\n  is       {printed}\n  buffers {buffers:?}")
     });

@@ -5,7 +5,6 @@ use crate::program;
 use crate::random::Random;
 use crate::random_texts::{text_of_length, text_pair};
 use crate::tally::Tally;
-use crate::writer::up_to_order;
 use std::fs;
 use std::path::{Path, PathBuf};
 use std::process::{Command, Stdio};
@@ -83,8 +82,7 @@ fn compare(tally: &mut Tally, what: &str, module: &Content, plan: &Content, fold
     tally.saw(&headline(&expected));
     let placed = module.place(&folder.join("module.tab")).and_then(|()| plan.place(&folder.join("plan.tab")));
     let run = placed.and_then(|()| Command::new(program).current_dir(folder).stdin(Stdio::null()).output());
-    let right =
-        |run: &std::process::Output| run.status.code() == Some(0) && run.stderr.is_empty() && up_to_order(&run.stdout) == up_to_order(&expected);
+    let right = |run: &std::process::Output| run.status.code() == Some(0) && run.stderr.is_empty() && run.stdout == expected;
     tally.check(run.as_ref().is_ok_and(right), || {
         let said = run.map_or_else(|error| error.to_string(), |run| format!("{}, {}, {}", run.status, shown(&run.stdout), shown(&run.stderr)));
         format!("{what}\n  {}\n  {}\n  expected {}\n  is       {said}", module.shown(), plan.shown(), shown(&expected))

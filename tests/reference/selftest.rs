@@ -3,7 +3,6 @@
 use crate::compare_texts::shown;
 use crate::program;
 use crate::tally::Tally;
-use crate::writer::up_to_order;
 use std::fs;
 use std::path::{Path, PathBuf};
 
@@ -13,9 +12,7 @@ pub fn run(cases: &Path) -> bool {
         let (module, plan) = (fs::read(folder.join("module.tab")).ok(), fs::read(folder.join("plan.tab")).ok());
         let printed = program::print(module.as_deref(), plan.as_deref(), &program::PROGRAM);
         let expected = fs::read(folder.join("stdout"));
-        let same = expected.as_ref().is_ok_and(|expected| up_to_order(expected) == up_to_order(&printed));
-        tally.saw(if expected.as_ref().is_ok_and(|expected| *expected == printed) { "equal byte for byte" } else { "equal but for order, or not" });
-        tally.check(same, || {
+        tally.check(expected.as_ref().is_ok_and(|expected| *expected == printed), || {
             let expected = expected.map_or_else(|error| error.to_string(), |expected| shown(&expected));
             format!("selftest, {}\n  expected {expected}\n  is       {}", folder.display(), shown(&printed))
         });

@@ -1,4 +1,4 @@
-//! The writer of table text, and when two texts are the same but for the order that is left open.
+//! The writer of table text: the table, its name, the names of its signals and their numbering settle every byte.
 
 use crate::calls::accept;
 use crate::reply::{Outcome, Reply};
@@ -28,7 +28,7 @@ fn signal_name<'n>(names: &[&'n [u8]], signal: usize) -> &'n [u8] {
     names.get(signal).copied().unwrap_or(b"")
 }
 
-/// The text of an accepted table: signals by ascending number, steps by state of departure.
+/// The text of an accepted table: signals by ascending number; steps by state of departure, those of one state by ascending signal number.
 pub fn text_of(table: &Table, name: &[u8], names: &[&[u8]]) -> Vec<u8> {
     let mut text = line(&[b"table", name, &digits(table.states), &digits(table.initial)]);
     for signal in members(table.signals()) {
@@ -61,18 +61,4 @@ pub fn line(fields: &[&[u8]]) -> Vec<u8> {
 
 pub fn digits(number: usize) -> Vec<u8> {
     number.to_string().into_bytes()
-}
-
-/// The lines of a text with the step lines of each state sorted: texts that differ in the open order alone become equal.
-pub fn up_to_order(text: &[u8]) -> Vec<&[u8]> {
-    let mut lines: Vec<&[u8]> = text.split_inclusive(|&byte| byte == b'\n').collect();
-    for run in lines.chunk_by_mut(|one, next| departure(one).is_some() && departure(one) == departure(next)) {
-        run.sort();
-    }
-    lines
-}
-
-/// The state of departure, as it is written, of a step line.
-fn departure(line: &[u8]) -> Option<&[u8]> {
-    line.strip_prefix(b"step\t")?.split(|&byte| byte == b'\t').next()
 }
