@@ -8,7 +8,7 @@ use crate::random_texts::{borrowed, good_names, text_pair};
 use crate::reply::Reply;
 use crate::table::{has, members, Table, NO_STEP, SIGNALS};
 use crate::tally::Tally;
-use crate::{archive, places, text, writer};
+use crate::{archive, orders, places, text, writer};
 
 /// Room for the text of a sequencer with the six lines before it.
 const REPORT_BYTES: usize = 65_536 + 256;
@@ -105,37 +105,92 @@ fn look_up(module: &[u8], plan: Option<&[u8]>, signal: usize, out: &mut [u8]) ->
     }
 }
 
-fn compare_writing(tally: &mut Tally, r: &mut Random, what: &str) {
-    let (table, name, names) = random_writing(r);
-    let names = borrowed(&names);
-    let length = if table.fault().is_none() { writer::text_of(&table, &name, &names).len() } else { 100 };
-    let room = r.pick(&[length, length, length - 1, length + 1, length + 100, length / 2, 0, 65_535, 65_536, 65_537, 70_000]);
-    let mut expected = Lent::arbitrary(r, room);
-    let mut actual = expected.clone();
-    let reply = Reply::of(writer::write(&table, &name, &names, expected.part()));
-    let answer = archive::write(&table, &name, &names, actual.part());
-    let seen = outcome("write", &reply);
-    tally.saw(&seen);
-    if let Some(cell) = reply.bad_cell() {
-        places::record(tally, &seen, cell, &table);
+/// The outcome of a second writing where the name of an undeclared signal is another, or missing.
+const RENAMED: &str = "written again, undeclared signals renamed";
+
+/// What the writer is given beside its buffer.
+struct Writing {
+    table: Table,
+    name: Vec<u8>,
+    names: Vec<Vec<u8>>,
+}
+
+impl Writing {
+    fn parts(&self) -> (&Table, &[u8], Vec<&[u8]>) {
+        (&self.table, &self.name, borrowed(&self.names))
     }
-    tally.check(reply == answer && expected == actual, || {
-        let names: Vec<String> = names.iter().map(|name| shown(name)).collect();
-        format!(
-            "{what}: write, {room} bytes lent\n  {table:?}\n  {} {names:?}\n  expected {reply:?}\n  is       {answer:?}\n  bytes {:?}",
-            shown(&name), expected.difference(&actual)
-        )
-    });
-    if answer.number == 0 {
-        let text = &actual.part()[..answer.value.min(room)];
-        tally.check(reads_again(&table, &names, text), || format!("{what}: written and read again\n  {table:?}\n  {}", shown(text)));
+
+    fn shown(&self) -> String {
+        let names: Vec<String> = self.names.iter().map(|name| shown(name)).collect();
+        format!("{:?}\n  {} {names:?}", self.table, shown(&self.name))
     }
 }
 
-fn random_writing(r: &mut Random) -> (Table, Vec<u8>, Vec<Vec<u8>>) {
+fn compare_writing(tally: &mut Tally, r: &mut Random, what: &str) {
+    let writing = random_writing(r);
+    let (table, name, names) = writing.parts();
+    let length = if table.fault().is_none() { writer::text_of(table, name, &names).len() } else { 100 };
+    let room = r.pick(&[length, length, length - 1, length + 1, length + 100, length / 2, 0, 65_535, 65_536, 65_537, 70_000]);
+    let mut expected = Lent::arbitrary(r, room);
+    let mut actual = expected.clone();
+    let reply = Reply::of(writer::write(table, name, &names, expected.part()));
+    let answer = archive::write(table, name, &names, actual.part());
+    let seen = outcome("write", &reply);
+    tally.saw(&seen);
+    if let Some(cell) = reply.bad_cell() {
+        places::record(tally, &seen, cell, table);
+    }
+    orders::record(tally, "write", &expected.part()[..reply.value]);
+    tally.check(reply == answer && expected == actual, || {
+        let (writing, bytes) = (writing.shown(), expected.difference(&actual));
+        format!("{what}: write, {room} bytes lent\n  {writing}\n  expected {reply:?}\n  is       {answer:?}\n  bytes {bytes:?}")
+    });
+    if answer.number == 0 {
+        let text = &actual.part()[..answer.value.min(room)];
+        tally.check(reads_again(table, &names, text), || format!("{what}: written and read again\n  {table:?}\n  {}", shown(text)));
+        write_again(tally, r, what, &writing, &answer, text);
+    }
+}
+
+/// Equal tables, names and numbering have equal texts: the archive is held to itself. In the second call the undeclared signals have other names, and
+/// every byte that the text is to take is wrong beforehand.
+fn write_again(tally: &mut Tally, r: &mut Random, what: &str, first: &Writing, answer: &Reply, text: &[u8]) {
+    let second = rename_undeclared(r, first);
+    let room = text.len() + r.below(100);
+    let mut expected = Lent::arbitrary(r, room);
+    let mut actual = expected.clone();
+    expected.part()[..text.len()].copy_from_slice(text);
+    actual.part().iter_mut().zip(text).for_each(|(byte, right)| *byte = !right);
+    let (table, name, names) = second.parts();
+    let again = archive::write(table, name, &names, actual.part());
+    if second.names != first.names {
+        orders::record(tally, RENAMED, text);
+    }
+    tally.check(again == *answer && expected == actual, || {
+        let (first, second, bytes) = (first.shown(), second.shown(), expected.difference(&actual));
+        format!("{what}: written again, {room} bytes lent\n  {first}\n  {second}\n  expected {answer:?}\n  is       {again:?}\n  bytes {bytes:?}")
+    });
+}
+
+/// Each undeclared signal gets another name, good or bad or a declared signal's; the names may end after the last declared signal, or have all 32.
+fn rename_undeclared(r: &mut Random, Writing { table, name, names }: &Writing) -> Writing {
+    let mut renamed = names.clone();
+    for signal in (0..names.len()).filter(|&signal| !has(table.signals(), signal)) {
+        if r.percent(50) {
+            renamed[signal] = r.pick(names);
+        } else {
+            damage_name(r, &mut renamed[signal]);
+        }
+    }
+    let needed = members(table.signals()).last().map_or(0, |highest| highest + 1);
+    renamed.resize(r.pick(&[needed, names.len(), SIGNALS]), b"more".to_vec());
+    Writing { table: table.clone(), name: name.clone(), names: renamed }
+}
+
+fn random_writing(r: &mut Random) -> Writing {
     if r.percent(3) {
         let (table, spare) = table_of_text_length(r.pick(&[65_535, 65_536, 65_537, 66_000]));
-        return (table, vec![b'x'; spare + 1], (b'a'..=b'z').map(|letter| vec![letter]).collect());
+        return Writing { table, name: vec![b'x'; spare + 1], names: (b'a'..=b'z').map(|letter| vec![letter]).collect() };
     }
     let sizes = sizes(r);
     let (mut table, other) = module_and_plan(r, sizes);
@@ -153,7 +208,7 @@ fn random_writing(r: &mut Random) -> (Table, Vec<u8>, Vec<Vec<u8>>) {
     for _ in 0..r.pick(&[0, 0, 1, 3]) {
         damage_names(r, &mut names, table.signals());
     }
-    (table, name, names)
+    Writing { table, name, names }
 }
 
 fn damage_name(r: &mut Random, name: &mut Vec<u8>) {
@@ -220,6 +275,7 @@ fn compare_report(tally: &mut Tally, r: &mut Random, what: &str) {
     expected_out[..text.len()].copy_from_slice(&text);
     let length = archive::report(&module, &plan, &mut actual, &mut out);
     tally.saw(&format!("report: {}", headline(&text)));
+    orders::record(tally, "report", &text);
     tally.check(length == text.len() && out == expected_out && expected == actual, || {
         let (module, plan, text, printed) = (shown(&module), shown(&plan), shown(&text), shown(&out[..length.min(REPORT_BYTES)]));
         let buffers = expected.differences(&actual);
@@ -287,5 +343,8 @@ fn ask_for_all_outcomes(tally: &mut Tally) {
     }
     for number in [8, 9, 10, 23] {
         tally.must_have_seen(&format!("report: refused {number:2} of 0"));
+    }
+    for call in ["write", RENAMED, "report"] {
+        orders::ask(tally, call);
     }
 }

@@ -1,7 +1,7 @@
 //! An independent implementation of document 01 and of S-2 and S-3 of document 02, written from their words and by the plainest means, and
 //! comparisons of the archives and the program with it. The rules are in `table` to `synth`, the calls with their refusals in `calls`, `text`,
-//! `writer` and `program`; what is tried comes from `random_tables` and `random_texts`, and `places` says which bad cells have to be among it; the
-//! archives stand behind `archive`.
+//! `writer` and `program`; what is tried comes from `random_tables` and `random_texts`, and `places` says which bad cells have to be among it,
+//! `orders` which steps of one state; the archives stand behind `archive`.
 //!
 //! Where document 01 is silent the reference follows docs/DECISIONS.md or the library, and says nothing on its own: the table that a refusal of a call
 //! on one table and of the writer names; a missing entry of the writer's names; what counts as a step in cells that no check has seen; how
@@ -25,6 +25,7 @@ mod compare_texts;
 mod demand3;
 mod fit;
 mod lent;
+mod orders;
 mod places;
 mod product;
 mod program;

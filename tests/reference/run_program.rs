@@ -1,10 +1,10 @@
 //! The program itself, run in a scratch folder on files, against what the reference prints.
 
 use crate::compare_texts::{headline, shown};
-use crate::program;
 use crate::random::Random;
 use crate::random_texts::{text_of_length, text_pair};
 use crate::tally::Tally;
+use crate::{orders, program};
 use std::fs;
 use std::path::{Path, PathBuf};
 use std::process::{Command, Stdio};
@@ -68,6 +68,7 @@ pub fn run(seed: u64, count: u64, only: Option<u64>, folder: &Path, program: &Pa
         for outcome in ["verdict yes", "verdict none", "refused 24 of 1", "refused 24 of 2", "refused 13 of 1", "refused 13 of 2"] {
             tally.must_have_seen(outcome);
         }
+        orders::ask(&mut tally, "program");
     }
     tally.finish()
 }
@@ -80,6 +81,7 @@ fn prepare(folder: &Path, program: &Path) -> std::io::Result<PathBuf> {
 fn compare(tally: &mut Tally, what: &str, module: &Content, plan: &Content, folder: &Path, program: &Path) {
     let expected = program::print(module.bytes(), plan.bytes(), &program::PROGRAM);
     tally.saw(&headline(&expected));
+    orders::record(tally, "program", &expected);
     let placed = module.place(&folder.join("module.tab")).and_then(|()| plan.place(&folder.join("plan.tab")));
     let run = placed.and_then(|()| Command::new(program).current_dir(folder).stdin(Stdio::null()).output());
     let right = |run: &std::process::Output| run.status.code() == Some(0) && run.stderr.is_empty() && run.stdout == expected;
