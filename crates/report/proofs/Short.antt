@@ -15,7 +15,7 @@ use Rattle.theory.proofs.Tests.{or-left}
 use Rattle.text.specs.Reading.{Joint, both, neither, readBoth, tableRead}
 use Rattle.text.specs.Writing.{wholeText, textLength, writerChecks}
 use Rattle.labels.specs.Names.{sequencerWord, signalNames}
-use Rattle.printout.specs.Lines.{refusalText, figures}
+use Rattle.printout.specs.Lines.{figures}
 use Rattle.printout.proofs.Short.{refusal-short, figures-short}
 use Rattle.report.specs.Report.{lentPairs, roomOf, textChecks, unlessLine, reportChecks, resultText, textRead, reportText}
 

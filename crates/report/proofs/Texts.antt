@@ -1,5 +1,5 @@
 -- The text of the sequencer behind the six lines, or the refusal in place of all.
-use mathlib.Core.Path.{_≡_, refl, sym, ap, _∙_}
+use mathlib.Core.Path.{_≡_, sym, ap, _∙_}
 use mathlib.Core.Bool.{Bool, true, false}
 use mathlib.Core.List.{List, _++_}
 use Prim.Native.Nat.{ℕ, _-_, _≤_}
@@ -11,23 +11,16 @@ use Rattle.theory.specs.declared.Checked.{Checked}
 use Rattle.theory.specs.declared.Checked.the-variants.{Accepted, Refused}
 use Rattle.theory.specs.Table.{Table}
 use Rattle.theory.specs.Checks.{first, unlessRefused}
-use Rattle.text.specs.Writing.{wholeText, textLength, writerChecks, writerBytes}
+use Rattle.text.specs.Writing.{wholeText, textLength, writerBytes}
 use Rattle.emit.proofs.Buffer.{Puts, puts-then}
 use Rattle.writer.specs.declared.Printed.{Printed}
 use Rattle.writer.specs.declared.Printed.the-variants as reply
 use Rattle.writer.specs.Replies.{writerReply}
+use Rattle.writer.proofs.Replies.{refused-of, accepted-of}
 use Rattle.labels.specs.Names.{sequencerWord, signalNames}
 use Rattle.printout.specs.Lines.{refusalText}
 use Rattle.report.specs.Report.{textChecks, withText}
 use Rattle.report.specs.Parts.{Answers}
-
-refused-of : (c : Checked) (n : ℕ) (r : Refusal) → unlessRefused c reply.Refused (reply.Length n) ≡ reply.Refused r → c ≡ Refused r
-refused-of Accepted n r e = absurd (let z : _≡_ {A = ℕ} 0 1 = cc in omega arith)
-refused-of (Refused s) n r e = let z : s ≡ r = cc in ap Refused z
-
-accepted-of : (c : Checked) (n k : ℕ) → unlessRefused c reply.Refused (reply.Length n) ≡ reply.Length k → (c ≡ Accepted) × (n ≡ k)
-accepted-of Accepted n k e = (refl, cc)
-accepted-of (Refused s) n k e = absurd (let z : _≡_ {A = ℕ} 0 1 = cc in omega arith)
 
 module _ (m p : List ℕ) (t : Table) (bytes bytes′ : List ℕ) (k : Printed) (size : length bytes ≡ 65536)
     (replied : k ≡ writerReply t sequencerWord (signalNames m p) (length bytes)) (written : bytes′ ≡ writerBytes t sequencerWord (signalNames m p) bytes) where

@@ -10,3 +10,4 @@ pub mod Accepted
 pub mod Said
 pub mod Parts
 pub mod NeverTen
+pub mod Example

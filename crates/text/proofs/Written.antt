@@ -1,7 +1,7 @@
 -- What the text of a table says of its order (02, S-3): signals and the steps of a state stand by ascending number, each once; and equal tables,
 -- names and numbering have equal texts.
-use mathlib.Core.Path.{_≡_, refl, sym, ap, _∙_}
-use mathlib.Core.Bool.{Bool, true, false, _&&_, cond}
+use mathlib.Core.Path.{_≡_, refl, sym, _∙_}
+use mathlib.Core.Bool.{Bool, true, false, not, _&&_, cond}
 use mathlib.Core.List.{List, [], _∷_, _++_, map, append-assoc}
 use mathlib.Core.Option.{Option, none}
 use Prim.Native.Nat.{ℕ, zero, suc, _+_, _≤_, _<_}
@@ -9,14 +9,18 @@ use native.Mathlib.Omega.{arith}
 use lib.Dec.{T, ltb}
 use lib.ListN.{length, take, drop}
 use lib.Seq.{take-at}
-use Rattle.theory.specs.declared.Checked.the-variants.{Accepted}
+use Rattle.theory.specs.declared.Checked.{Checked}
+use Rattle.theory.specs.declared.Checked.the-variants.{Accepted, Refused}
 use Rattle.theory.specs.Bounded.{digit}
 use Rattle.theory.specs.Closure.{isSome}
 use Rattle.theory.specs.Table.{Table, automaton, cellAt, decode}
-use Rattle.theory.specs.Checks.{first, declared}
+use Rattle.theory.specs.Checks.{Check, unplaced, first, declared, tableChecks}
 use Rattle.theory.specs.Valid.{Valid}
+use Rattle.theory.proofs.Bounded.{any-cong}
+use Rattle.theory.proofs.Checks.{orElse, first-append, checks-valid}
 use Rattle.theory.proofs.Options.{is-some}
-use Rattle.text.specs.Writing.{tabbed, printed, those, signals, nameOf, tableRow, signalRow, stepRow, stepRows, wholeText, hasStep, enabledAt, writerChecks, textLength, writerBytes}
+use Rattle.text.specs.Fields.{same, nameOk}
+use Rattle.text.specs.Writing.{tabbed, printed, those, signals, nameOf, signalRow, stepRow, stepRows, wholeText, hasStep, enabledAt, misnamed, ambiguous, textLength, tooLong, writerChecks, writerBytes, SameWriting}
 use Rattle.text.proofs.Occurrences.{occurrences, those-once}
 
 -- ---- lines
@@ -75,30 +79,64 @@ those-map f g h e s (suc n) = go (f s) refl (those f (suc s) n) (those-map f g h
     go true q l rest = rw (e s (rw q tt), rest)
     go false q l rest = rest
 
-module _ (t : Table) (valid : Valid t) (names names′ : List (List ℕ)) (agree : (a : ℕ) → T (declared t a) → nameOf names a ≡ nameOf names′ a) where
+module _ (t : Table) (name : List ℕ) (names names′ : List (List ℕ)) (called : (a : ℕ) → T (declared t a) → nameOf names a ≡ nameOf names′ a) where
   signals-same : map (signalRow t names) (signals t) ≡ map (signalRow t names′) (signals t)
   unfolding signals signalRow
-  signals-same = those-map (declared t) (signalRow t names) (signalRow t names′) (λ a d. rw (agree a d)) 0 32
+  signals-same = those-map (declared t) (signalRow t names) (signalRow t names′) (λ a d. rw (called a d)) 0 32
 
-  steps-same : (s : ℕ) → s < t .header .states → map (stepRow t names s) (enabledAt t s) ≡ map (stepRow t names′ s) (enabledAt t s)
-  unfolding enabledAt stepRow
-  steps-same s h = those-map (hasStep t s) (stepRow t names s) (stepRow t names′ s) (λ a k.
-      let (u, e) = is-some (automaton t .next s a) k in
-      rw (agree a (valid .known s a u h e))) 0 32
+  -- The signal of a step is declared.
+  module _ (valid : Valid t) where
+    steps-same : (s : ℕ) → s < t .header .states → map (stepRow t names s) (enabledAt t s) ≡ map (stepRow t names′ s) (enabledAt t s)
+    unfolding enabledAt stepRow
+    steps-same s h = those-map (hasStep t s) (stepRow t names s) (stepRow t names′ s) (λ a k.
+        let (u, e) = is-some (automaton t .next s a) k in
+        rw (called a (valid .known s a u h e))) 0 32
 
-  rows-same : (s n : ℕ) → s + n ≤ t .header .states → stepRows t names s n ≡ stepRows t names′ s n
-  unfolding stepRows
-  rows-same s zero h = refl
-  rows-same s (suc n) h = rw (steps-same s (omega arith), rows-same (suc s) n (omega arith))
+    rows-same : (s n : ℕ) → s + n ≤ t .header .states → stepRows t names s n ≡ stepRows t names′ s n
+    unfolding stepRows
+    rows-same s zero h = refl
+    rows-same s (suc n) h = rw (steps-same s (omega arith), rows-same (suc s) n (omega arith))
 
-  text-same : (name : List ℕ) → wholeText t name names ≡ wholeText t name names′
-  unfolding wholeText
-  text-same name = rw (signals-same, rows-same 0 (t .header .states) (omega arith))
+    text-same : wholeText t name names ≡ wholeText t name names′
+    unfolding wholeText
+    text-same = rw (signals-same, rows-same 0 (t .header .states) (omega arith))
 
--- Equal tables, names and numbering have equal texts. Of the names only those of declared signals are looked at.
-pub same-texts : (t u : Table) (name name′ : List ℕ) (names names′ : List (List ℕ)) → Valid t → t ≡ u → name ≡ name′
-    → ((a : ℕ) → T (declared t a) → nameOf names a ≡ nameOf names′ a) → wholeText t name names ≡ wholeText u name′ names′
-same-texts t u name name′ names names′ valid e f agree = text-same t valid names names′ agree name ∙ (λ i. wholeText (e i) (f i) names′)
+  misnamed-same : misnamed t name names ≡ misnamed t name names′
+  misnamed-same = any-cong 32 _ _ (λ a h. go a (declared t a) refl)
+    where
+      go : (a : ℕ) (b : Bool) → declared t a ≡ b → (b && not (nameOk (nameOf names a))) ≡ (b && not (nameOk (nameOf names′ a)))
+      go a true e = rw (called a (rw e tt))
+      go a false e = refl
+
+  ambiguous-same : ambiguous t name names ≡ ambiguous t name names′
+  ambiguous-same = any-cong 32 _ _ (λ a h. any-cong a _ _ (λ b k. go a b (declared t a) refl (declared t b) refl))
+    where
+      go : (a b : ℕ) (x : Bool) → declared t a ≡ x → (y : Bool) → declared t b ≡ y
+          → ((x && y) && same (nameOf names a) (nameOf names b)) ≡ ((x && y) && same (nameOf names′ a) (nameOf names′ b))
+      go a b true e true f = rw (called a (rw e tt), called b (rw f tt))
+      go a b true e false f = refl
+      go a b false e y f = refl
+
+  checks-same : (room : ℕ) → first (writerChecks t name names room) ≡ first (writerChecks t name names′ room)
+  unfolding writerChecks textLength
+  checks-same room = first-append (tableChecks 1 t) (later names) ∙ go (first (tableChecks 1 t)) refl ∙ sym (first-append (tableChecks 1 t) (later names′))
+    where
+      later : List (List ℕ) → List Check
+      later l =
+          unplaced 16 0 (not (nameOk name)) ∷ unplaced 16 0 (misnamed t name l) ∷ unplaced 18 0 (ambiguous t name l) ∷ unplaced 23 0 (tooLong t name l room) ∷ []
+
+      go : (k : Checked) → first (tableChecks 1 t) ≡ k → orElse k (first (later names)) ≡ orElse k (first (later names′))
+      go Accepted e = rw (misnamed-same, ambiguous-same, text-same (checks-valid 1 t .0 e))
+      go (Refused r) e = refl
+
+-- Equal tables, names and numbering have equal texts; for the checks no table is excluded.
+module _ (t : Table) (name : List ℕ) (names : List (List ℕ)) (u : Table) (name′ : List ℕ) (names′ : List (List ℕ))
+    (w : SameWriting t name names u name′ names′) where
+  pub same-texts : Valid t → wholeText t name names ≡ wholeText u name′ names′
+  same-texts valid = text-same t name names names′ (w .called) valid ∙ (λ i. wholeText (w .tables i) (w .titles i) names′)
+
+  pub same-checks : (room : ℕ) → first (writerChecks t name names room) ≡ first (writerChecks u name′ names′ room)
+  same-checks room = checks-same t name names names′ (w .called) room ∙ (λ i. first (writerChecks (w .tables i) (w .titles i) names′ room))
 
 -- ---- the lent bytes
 

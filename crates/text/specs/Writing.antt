@@ -1,8 +1,9 @@
 -- The text of a table (01, "Table text"; 02, S-3), and why the writer turns a call away.
+use mathlib.Core.Path.{_≡_}
 use mathlib.Core.Bool.{Bool, not, _&&_, _||_, cond}
 use mathlib.Core.List.{List, [], _∷_, _++_, map}
 use Prim.Native.Nat.{ℕ, zero, suc, _+_, _/_, _%_}
-use lib.Dec.{ltb}
+use lib.Dec.{T, ltb}
 use lib.ListN.{length, getD, drop}
 use Rattle.theory.specs.Bounded.{any}
 use Rattle.theory.specs.Closure.{isSome}
@@ -108,3 +109,11 @@ module _ (t : Table) (name : List ℕ) (names : List (List ℕ)) where
   -- The lent bytes after the call: the text, then the bytes as they were; all of them after a refusal.
   unfoldable pub writerBytes : List ℕ → List ℕ
   writerBytes bytes = unlessRefused (first (writerChecks (length bytes))) (λ r. bytes) (wholeText t name names ++ drop textLength bytes)
+
+-- ---- two calls
+
+-- Equal tables, names and numbering (02, S-3). Of the names, those of declared signals count.
+pub record SameWriting (t : Table) (name : List ℕ) (names : List (List ℕ)) (u : Table) (name′ : List ℕ) (names′ : List (List ℕ)) : Type 0 where
+  pub tables : t ≡ u
+  pub titles : name ≡ name′
+  pub called : (a : ℕ) → T (declared t a) → nameOf names a ≡ nameOf names′ a

@@ -14,8 +14,8 @@ use Rattle.text.specs.Writing.{decimal, nameOf, textLength}
 use Rattle.emit.specs.Rows.{tableText, signalText}
 use Rattle.emit.proofs.Decimal.{decimal-most}
 use Rattle.emit.proofs.Rows.{table-long, step-long}
-use Rattle.writer.specs.Rows.{signalLines, cellText, stepLines}
-use Rattle.writer.proofs.Lines.{signals-next, stepsBy, steps-next, text-parts}
+use Rattle.writer.specs.Rows.{signalLines, cellText, stateLines, stepLines}
+use Rattle.writer.proofs.Lines.{signals-next, steps-next, text-parts}
 
 -- What is counted, with what is left, is the whole.
 pub record Counted (whole : List ℕ) (total : ℕ) (rest : List ℕ) : Type 0 where
@@ -41,10 +41,10 @@ module _ (whole : List ℕ) (total left s left′ : ℕ) (bound : left < 2 ^ 32)
       counted-next whole (signalLines left inputs names) total l (signalText input name) (signalLines left′ inputs names) x
       (signals-next left inputs names bound more s e input f name g left′ h) p
 
-  pub steps-counted : (n : ℕ) (cells : List ℕ) (state first : ℕ) → first ≡ state * 32 → Counted whole total (stepsBy n cells names state left) → state < n
-      → length cells ≡ n * 32 → x ≡ length (cellText n state name (getD cells (first + s) 0)) → Counted whole (total + x) (stepsBy n cells names state left′)
+  pub steps-counted : (n : ℕ) (cells : List ℕ) (state first : ℕ) → first ≡ state * 32 → Counted whole total (stateLines n cells names state left) → state < n
+      → length cells ≡ n * 32 → x ≡ length (cellText n state name (getD cells (first + s) 0)) → Counted whole (total + x) (stateLines n cells names state left′)
   steps-counted n cells state first f l k q p =
-      counted-next whole (stepsBy n cells names state left) total l (cellText n state (nameOf names s) (getD cells (first + s) 0)) (stepsBy n cells names state left′) x
+      counted-next whole (stateLines n cells names state left) total l (cellText n state (nameOf names s) (getD cells (first + s) 0)) (stateLines n cells names state left′) x
       (steps-next n cells names state first left s f bound more k q e left′ h) (rw g at p)
 
 -- ---- a cell

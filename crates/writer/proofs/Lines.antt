@@ -27,10 +27,10 @@ use Rattle.text.proofs.Written.{printed-append}
 use Rattle.emit.specs.Rows.{tableText, signalText, stepText}
 use Rattle.emit.proofs.Buffer.{Puts, puts-none, puts-then}
 use Rattle.names.specs.Names.{texts, Named}
-use Rattle.names.proofs.Names.{name-lent}
+use Rattle.names.proofs.Names.{name-lent, lent-length}
 use Rattle.names.proofs.Checks.{declared-has}
 use Rattle.names.proofs.Visit.{those-same, those-lowest, those-empty}
-use Rattle.writer.specs.Rows.{signalLines, cellText, steps, stateLines, stepLines, Writable}
+use Rattle.writer.specs.Rows.{signalLines, cellText, steps, stateLines, stepLines, Known, Writable}
 
 -- ---- signals
 
@@ -56,6 +56,13 @@ module _ (d : List ℕ) (at n state : ℕ) (cell : ℕ) where
 
 -- ---- steps
 
+-- The same entry as code has it: the cell is read at the row's first one, and the names are lent.
+pub entry-lent : (n : ℕ) (cells : List ℕ) (names : List (RefT (List ℕ))) → Writable n cells (texts names)
+    → (state first a : ℕ) → first ≡ state * 32 → state < n → a < 32 → getD cells (first + a) 0 < n → a < length names
+entry-lent n cells names w state first a e h k c =
+    let c′ : getD cells (state * 32 + a) 65535 < n = rw (any-default cells (state * 32 + a) 65535 0 (omega (arith, w .size))) (rw e at c) in
+    omega (arith, lent-length names, w .entry state a h k c′)
+
 -- The numbers of a list that pass the test.
 keep : (ℕ → Bool) → List ℕ → List ℕ
 keep f [] = []
@@ -74,9 +81,13 @@ module _ (n : ℕ) (cells : List ℕ) (names : List (List ℕ)) where
   abbrev t : Table
   t = steps n cells
 
-  -- The steps of a state by the signals of a set.
-  pub stepsBy : ℕ → ℕ → List ℕ
+  -- The lines of a state by a set: the members come first, and of them those that have a step are kept.
+  stepsBy : ℕ → ℕ → List ℕ
   stepsBy state set = printed (map (stepRow t names state) (keep (hasStep t state) (those (has set) 0 32)))
+
+  by-keep : (state set : ℕ) → stateLines n cells names state set ≡ stepsBy state set
+  unfolding stepsBy
+  by-keep state set = ap (λ (l : List ℕ). printed (map (stepRow t names state) l)) (those-keep (hasStep t state) (has set) 0 32)
 
   steps-lowest : (state left : ℕ) → left < 2 ^ 32 → ¬ (left ≡ 0)
       → stepsBy state left
@@ -96,38 +107,40 @@ module _ (n : ℕ) (cells : List ℕ) (names : List (List ℕ)) where
   -- The same as code has it: the cell is read at the row's first one.
   pub steps-next : (state first left s : ℕ) → first ≡ state * 32 → left < 2 ^ 32 → ¬ (left ≡ 0) → state < n → length cells ≡ n * 32 → s ≡ trailingZeros 32 left
       → (left′ : ℕ) → left′ ≡ left - 2 ^ trailingZeros 32 left
-      → stepsBy state left ≡ cellText n state (nameOf names s) (getD cells (first + s) 0) ++ stepsBy state left′
+      → stateLines n cells names state left ≡ cellText n state (nameOf names s) (getD cells (first + s) 0) ++ stateLines n cells names state left′
   steps-next state first left s f bound more k e q left′ g =
       let below : trailingZeros 32 left < 32 = low 32 left (omega arith) bound .lowest .below in
-      rw (f, q, g, any-default cells (state * 32 + trailingZeros 32 left) 0 65535 (omega arith)) (steps-lowest state left bound more)
+      rw (by-keep state left, by-keep state left′, f, q, g, any-default cells (state * 32 + trailingZeros 32 left) 0 65535 (omega arith))
+      (steps-lowest state left bound more)
 
-  pub steps-none : (state left : ℕ) → left ≡ 0 → stepsBy state left ≡ []
+  pub steps-none : (state left : ℕ) → left ≡ 0 → stateLines n cells names state left ≡ []
   unfolding stepsBy keep printed
-  steps-none state left e = rw (e, those-empty 32)
+  steps-none state left e = by-keep state left ∙ rw (e, those-empty 32)
 
-  -- The signals of a writable table have all its steps.
-  pub steps-by : (state signals : ℕ) → Writable n cells signals names → state < n → stateLines n cells names state ≡ stepsBy state signals
-  unfolding stepsBy enabledAt
-  steps-by state signals w h =
+  -- All steps of a state, where their signals are in the set.
+  steps-all : (set : ℕ) → Known n cells set → (state : ℕ) → state < n
+      → printed (map (stepRow t names state) (enabledAt t state)) ≡ stateLines n cells names state set
+  unfolding enabledAt
+  steps-all set known state h =
       ap (λ (l : List ℕ). printed (map (stepRow t names state) l))
-      (those-same (hasStep t state) (λ a. has signals a && hasStep t state a) 0 32 (λ a z k. known a (omega arith))
-      ∙ those-keep (hasStep t state) (has signals) 0 32)
+      (those-same (hasStep t state) (λ a. has set a && hasStep t state a) 0 32 (λ a z k. member a (omega arith)))
     where
-      known : (a : ℕ) → a < 32 → hasStep t state a ≡ (has signals a && hasStep t state a)
-      known a k = elim (decLt (cellAt t state a) n) [
-        | yes c ↦ rw (is-true (has signals a) (w .known state a h k c))
-        | no g ↦ rw (lt-ltb a 32 k, le-ltb (cellAt t state a) n (omega arith)) (sym (and-false (has signals a)))
+      member : (a : ℕ) → a < 32 → hasStep t state a ≡ (has set a && hasStep t state a)
+      member a k = elim (decLt (cellAt t state a) n) [
+        | yes c ↦ rw (is-true (has set a) (known state a h k c))
+        | no g ↦ rw (lt-ltb a 32 k, le-ltb (cellAt t state a) n (omega arith)) (sym (and-false (has set a)))
       ]
 
   -- The steps of the states from s on.
   abbrev pub rowsFrom : ℕ → List ℕ
   rowsFrom s = printed (stepRows t names s (n - s))
 
-  pub rows-next : (s : ℕ) → s < n → rowsFrom s ≡ stateLines n cells names s ++ rowsFrom (s + 1)
+  pub rows-next : (set : ℕ) → Known n cells set → (s : ℕ) → s < n → rowsFrom s ≡ stateLines n cells names s set ++ rowsFrom (s + 1)
   unfolding stepRows
-  rows-next s h =
+  rows-next set known s h =
       let e : n - s ≡ suc (n - (s + 1)) = omega arith in
-      rw (e, add-one s) (printed-append (map (stepRow t names s) (enabledAt t s)) (stepRows t names (suc s) (n - suc s)))
+      rw (e, add-one s) (printed-append (map (stepRow t names s) (enabledAt t s)) (stepRows t names (suc s) (n - suc s))
+      ∙ ap (λ (l : List ℕ). l ++ printed (stepRows t names (suc s) (n - suc s))) (steps-all set known s h))
 
   pub rows-all : stepLines n cells names ≡ rowsFrom 0
   rows-all = let e : n - 0 ≡ n = omega arith in rw e
@@ -142,15 +155,13 @@ module _ (a : Automaton) (cells : List ℕ) (names : List (List ℕ)) where
   abbrev acts : ℕ
   acts = bitOr (a .inputs) (a .outputs)
 
-  pub text-writable : (set : ℕ) → set ≡ acts → Valid (table a cells) → Named acts names → Writable (a .states) cells set names
-  text-writable set e v m = rw e (record {
-    few = v .few-states;
-    size = v .size;
-    known = λ s x h k c.
-        let u = cellAt (table a cells) s x in
-        subst T (declared-has a cells x k) (v .known s x u h (rw (lt-ltb x 32 k, lt-ltb u (a .states) c)));
-    named = m;
-  })
+  pub text-known : Valid (table a cells) → Known (a .states) cells acts
+  text-known v s x h k c =
+      let u = cellAt (table a cells) s x in
+      subst T (declared-has a cells x k) (v .known s x u h (rw (lt-ltb x 32 k, lt-ltb u (a .states) c)))
+
+  pub text-writable : Valid (table a cells) → Named acts names → Writable (a .states) cells names
+  text-writable v m = record { few = v .few-states; size = v .size; entry = λ s x h k c. m .entry x k (text-known v s x h k c) }
 
   all-signals : printed (map (signalRow (table a cells) names) (signals (table a cells))) ≡ signalLines acts (a .inputs) names
   unfolding signals signalLines signalRow

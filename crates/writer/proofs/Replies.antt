@@ -1,5 +1,5 @@
 -- The writer's checks, the text, and the reply.
-use mathlib.Core.Path.{_≡_, sym, ap, _∙_}
+use mathlib.Core.Path.{_≡_, refl, sym, ap, _∙_}
 use mathlib.Core.Bool.{true, false, _||_, or-true}
 use mathlib.Core.List.{List, _++_, append-assoc}
 use Prim.Native.Nat.{ℕ, _≤_, _<_}
@@ -13,7 +13,7 @@ use Rattle.theory.specs.declared.Refusal.{Refusal}
 use Rattle.theory.specs.declared.Checked.{Checked}
 use Rattle.theory.specs.declared.Checked.the-variants.{Accepted, Refused}
 use Rattle.theory.specs.Table.{Table, table}
-use Rattle.theory.specs.Checks.{first, tableChecks}
+use Rattle.theory.specs.Checks.{first, unlessRefused, tableChecks}
 use Rattle.theory.specs.Valid.{Valid}
 use Rattle.theory.proofs.Checks.{first-refused, first-accepted, first-part, checks-valid}
 use Rattle.text.specs.Writing.{wholeText, textLength, writerChecks, writerBytes}
@@ -23,6 +23,16 @@ use Rattle.names.proofs.Checks.{passed-named, passed-short}
 use Rattle.writer.specs.declared.Printed.{Printed}
 use Rattle.writer.specs.declared.Printed.the-variants as reply
 use Rattle.writer.specs.Replies.{checksBefore, lengthCheck, printReply, printBytes, writerReply}
+
+-- ---- what a reply says of the checks
+
+pub refused-of : (c : Checked) (n : ℕ) (r : Refusal) → unlessRefused c reply.Refused (reply.Length n) ≡ reply.Refused r → c ≡ Refused r
+refused-of Accepted n r e = absurd (let z : _≡_ {A = ℕ} 0 1 = cc in omega arith)
+refused-of (Refused s) n r e = let z : s ≡ r = cc in ap Refused z
+
+pub accepted-of : (c : Checked) (n k : ℕ) → unlessRefused c reply.Refused (reply.Length n) ≡ reply.Length k → (c ≡ Accepted) × (n ≡ k)
+accepted-of Accepted n k e = (refl, cc)
+accepted-of (Refused s) n k e = absurd (let z : _≡_ {A = ℕ} 0 1 = cc in omega arith)
 
 module _ (t : Table) (name : List ℕ) (names : List (List ℕ)) where
   -- ---- all checks but 23

@@ -1,15 +1,14 @@
 -- The lines of a set of signals, of a cell, of a state, of all states.
 use mathlib.Core.Path.{_≡_}
-use mathlib.Core.Bool.{cond}
+use mathlib.Core.Bool.{_&&_, cond}
 use mathlib.Core.List.{List, [], map}
 use Prim.Native.Nat.{ℕ, _+_, _*_, _≤_, _<_}
 use lib.Dec.{T, ltb}
 use lib.ListN.{length, getD}
 use Rattle.theory.specs.Sets.{has}
 use Rattle.theory.specs.Table.{Table, table}
-use Rattle.text.specs.Writing.{printed, those, signalRow, stepRow, stepRows, enabledAt}
+use Rattle.text.specs.Writing.{printed, those, signalRow, stepRow, stepRows, hasStep}
 use Rattle.emit.specs.Rows.{stepText}
-use Rattle.names.specs.Names.{Named}
 
 -- The declarations of the signals of a set, by ascending number; those of `inputs` are inputs.
 unfoldable pub signalLines : ℕ → ℕ → List (List ℕ) → List ℕ
@@ -24,15 +23,21 @@ cellText n s name cell = cond (ltb cell n) (stepText s name cell) []
 abbrev pub steps : ℕ → List ℕ → Table
 steps n cells = table (record { states = n; initial = 0; inputs = 0; outputs = 0 }) cells
 
-abbrev pub stateLines : ℕ → List ℕ → List (List ℕ) → ℕ → List ℕ
-stateLines n cells names s = printed (map (stepRow (steps n cells) names s) (enabledAt (steps n cells) s))
+-- The steps of the state s by the signals of a set, by ascending number.
+abbrev pub stateLines : ℕ → List ℕ → List (List ℕ) → ℕ → ℕ → List ℕ
+stateLines n cells names s set =
+    let t = steps n cells in
+    printed (map (stepRow t names s) (those (λ a. has set a && hasStep t s a) 0 32))
 
 abbrev pub stepLines : ℕ → List ℕ → List (List ℕ) → List ℕ
 stepLines n cells names = printed (stepRows (steps n cells) names 0 n)
 
--- All cells are there, the signal of every step is among the signals, and each of these has an entry.
-pub record Writable (n : ℕ) (cells : List ℕ) (signals : ℕ) (names : List (List ℕ)) : Type 0 where
+-- The signal of every step is in the set.
+abbrev pub Known : ℕ → List ℕ → ℕ → Type 0
+Known n cells set = (s a : ℕ) → s < n → a < 32 → getD cells (s * 32 + a) 65535 < n → T (has set a)
+
+-- All cells are there, and the signal of every step has an entry.
+pub record Writable (n : ℕ) (cells : List ℕ) (names : List (List ℕ)) : Type 0 where
   pub few : n ≤ 4096
   pub size : length cells ≡ n * 32
-  pub known : (s a : ℕ) → s < n → a < 32 → getD cells (s * 32 + a) 65535 < n → T (has signals a)
-  pub named : Named signals names
+  pub entry : (s a : ℕ) → s < n → a < 32 → getD cells (s * 32 + a) 65535 < n → a < length names

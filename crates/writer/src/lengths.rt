@@ -9,7 +9,7 @@ ghost use Rattle.theory.specs.Valid.{Valid};
 ghost use Rattle.text.specs.Writing.{textLength};
 ghost use Rattle.emit.specs.Rows.{signalText};
 ghost use Rattle.names.specs.Names.{texts, Named};
-ghost use Rattle.writer.specs.Rows.{signalLines, cellText, stateLines, stepLines, Writable};
+ghost use Rattle.writer.specs.Rows.{signalLines, cellText, stateLines, stepLines, Known, Writable};
 use theory::Automaton;
 
 // A declaration.
@@ -51,11 +51,12 @@ fn cell_line(states: usize, from: usize, name: &[u8], cell: u16) -> usize
     name.len() + emit::width(from) + emit::width(to) + 8
 }
 
-// The steps of a state.
+// The steps of a state by the signals of a set.
 fn state_lines(states: usize, cells: &[u16], state: usize, signals: u32, names: &[&[u8]]) -> usize
-    requires { ⌜ Writable states (now cells) signals (texts (now names)) ⌝ }
+    requires { ⌜ Writable states (now cells) (texts (now names)) ⌝ }
+    requires { ⌜ Named signals (texts (now names)) ⌝ }
     requires { ⌜ state < states ⌝ }
-    ensures { λ r. ⌜ (r ≡ length (stateLines states (now (cells .entry)) (texts (now (names .entry))) state)) × (r ≤ 34 * 2 ^ 32) ⌝ }
+    ensures { λ r. ⌜ (r ≡ length (stateLines states (now (cells .entry)) (texts (now (names .entry))) state signals)) × (r ≤ 34 * 2 ^ 32) ⌝ }
 {
     let first = state * 32;
     let mut total = 0;
@@ -69,13 +70,16 @@ fn state_lines(states: usize, cells: &[u16], state: usize, signals: u32, names: 
 }
 
 // All steps.
-fn step_lines(states: usize, cells: &[u16], signals: u32, names: &[&[u8]]) -> usize
-    requires { ⌜ Writable states (now cells) signals (texts (now names)) ⌝ }
-    ensures { λ r. ⌜ (r ≡ length (stepLines states (now (cells .entry)) (texts (now (names .entry))))) × (r ≤ states * (34 * 2 ^ 32)) ⌝ }
+fn step_lines(a: Automaton, cells: &[u16], names: &[&[u8]]) -> usize
+    requires { ⌜ Writable (a .states) (now cells) (texts (now names)) ⌝ }
+    requires { ⌜ Named (bitOr (a .inputs) (a .outputs)) (texts (now names)) ⌝ }
+    requires { ⌜ Known (a .states) (now cells) (bitOr (a .inputs) (a .outputs)) ⌝ }
+    ensures { λ r. ⌜ (r ≡ length (stepLines (a .states) (now (cells .entry)) (texts (now (names .entry))))) × (r ≤ a .states * (34 * 2 ^ 32)) ⌝ }
 {
+    let signals = automaton::declared(a);
     let mut total = 0;
-    for s in 0..states {
-        total += state_lines(states, cells, s, signals, names);
+    for s in 0..a.states {
+        total += state_lines(a.states, cells, s, signals, names);
     }
     total
 }
@@ -88,7 +92,6 @@ pub fn text(a: Automaton, cells: &[u16], name: &[u8], names: &[&[u8]]) -> usize
     ensures { λ r. ⌜ r ≡ textLength (table a (now (cells .entry))) (now (name .entry)) (texts (now (names .entry))) ⌝ }
 {
     let head = name.len() + emit::width(a.states) + emit::width(a.initial) + 9;
-    let signals = automaton::declared(a);
-    let middle = signal_lines(signals, a.inputs, names);
-    head + middle + step_lines(a.states, cells, signals, names)
+    let middle = signal_lines(automaton::declared(a), a.inputs, names);
+    head + middle + step_lines(a, cells, names)
 }

@@ -8,7 +8,7 @@ ghost use Rattle.theory.specs.Valid.{Valid};
 ghost use Rattle.text.specs.Writing.{wholeText, nameOf};
 ghost use Rattle.emit.specs.Buffer.{after, stored};
 ghost use Rattle.names.specs.Names.{texts, Named};
-ghost use Rattle.writer.specs.Rows.{signalLines, cellText, stateLines, stepLines, Writable};
+ghost use Rattle.writer.specs.Rows.{signalLines, cellText, stateLines, stepLines, Known, Writable};
 use theory::Automaton;
 
 // The declarations of a set of signals, by ascending number.
@@ -49,7 +49,7 @@ fn cell_line(
     emit::step_line(d, at, from, names[signal], to)
 }
 
-// The steps of a state, by ascending signal. Tables declare few of the 32 signals, so only these are visited.
+// The steps of a state by the signals of a set, by ascending signal. Tables declare few of the 32 signals, so only these are visited.
 fn state_lines(
     d: &mut [u8],
     at: usize,
@@ -59,10 +59,10 @@ fn state_lines(
     signals: u32,
     names: &[&[u8]],
 ) -> usize
-    requires { ⌜ Writable states (now cells) signals (texts (now names)) ⌝ }
+    requires { ⌜ Writable states (now cells) (texts (now names)) ⌝ }
     requires { ⌜ state < states ⌝ }
-    ensures { λ r. ⌜ r ≡ after (length (now (d .entry))) at (stateLines states (now (cells .entry)) (texts (now (names .entry))) state) ⌝ }
-    ensures { λ r. ⌜ now (d .exit) ≡ stored (now (d .entry)) at (stateLines states (now (cells .entry)) (texts (now (names .entry))) state) ⌝ }
+    ensures { λ r. ⌜ r ≡ after (length (now (d .entry))) at (stateLines states (now (cells .entry)) (texts (now (names .entry))) state signals) ⌝ }
+    ensures { λ r. ⌜ now (d .exit) ≡ stored (now (d .entry)) at (stateLines states (now (cells .entry)) (texts (now (names .entry))) state signals) ⌝ }
 {
     let first = state * 32;
     let mut end = at;
@@ -75,22 +75,17 @@ fn state_lines(
     end
 }
 
-// The steps, sorted by state of departure.
-fn step_lines(
-    d: &mut [u8],
-    at: usize,
-    states: usize,
-    cells: &[u16],
-    signals: u32,
-    names: &[&[u8]],
-) -> usize
-    requires { ⌜ Writable states (now cells) signals (texts (now names)) ⌝ }
-    ensures { λ r. ⌜ r ≡ after (length (now (d .entry))) at (stepLines states (now (cells .entry)) (texts (now (names .entry)))) ⌝ }
-    ensures { λ r. ⌜ now (d .exit) ≡ stored (now (d .entry)) at (stepLines states (now (cells .entry)) (texts (now (names .entry)))) ⌝ }
+// The steps, by state of departure and then by signal.
+fn step_lines(d: &mut [u8], at: usize, a: Automaton, cells: &[u16], names: &[&[u8]]) -> usize
+    requires { ⌜ Writable (a .states) (now cells) (texts (now names)) ⌝ }
+    requires { ⌜ Known (a .states) (now cells) (bitOr (a .inputs) (a .outputs)) ⌝ }
+    ensures { λ r. ⌜ r ≡ after (length (now (d .entry))) at (stepLines (a .states) (now (cells .entry)) (texts (now (names .entry)))) ⌝ }
+    ensures { λ r. ⌜ now (d .exit) ≡ stored (now (d .entry)) at (stepLines (a .states) (now (cells .entry)) (texts (now (names .entry)))) ⌝ }
 {
+    let signals = automaton::declared(a);
     let mut end = at;
-    for s in 0..states {
-        end = state_lines(d, end, states, cells, s, signals, names);
+    for s in 0..a.states {
+        end = state_lines(d, end, a.states, cells, s, signals, names);
     }
     end
 }
@@ -103,7 +98,6 @@ pub fn text(d: &mut [u8], a: Automaton, cells: &[u16], name: &[u8], names: &[&[u
     ensures { λ r. ⌜ now (d .exit) ≡ stored (now (d .entry)) 0 (wholeText (table a (now (cells .entry))) (now (name .entry)) (texts (now (names .entry)))) ⌝ }
 {
     let i = emit::table_line(d, 0, name, a.states, a.initial);
-    let signals = automaton::declared(a);
-    let j = signal_lines(d, i, signals, a.inputs, names);
-    step_lines(d, j, a.states, cells, signals, names)
+    let j = signal_lines(d, i, automaton::declared(a), a.inputs, names);
+    step_lines(d, j, a, cells, names)
 }

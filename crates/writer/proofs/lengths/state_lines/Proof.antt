@@ -9,7 +9,7 @@ use Rattle.text.specs.Writing.{nameOf}
 use Rattle.names.specs.Names.{texts, Named}
 use Rattle.names.proofs.Names.{name-lent, lent-length, named-lowest, short-lowest, named-rest}
 use Rattle.writer.specs.Rows.{stateLines}
-use Rattle.writer.proofs.Lines.{stepsBy, steps-by, steps-none}
+use Rattle.writer.proofs.Lines.{steps-none}
 use Rattle.writer.proofs.Counted.{Counted, counted-none, counted-all, steps-counted}
 use borrow.Author.Needs.{needs}
 use Rattle.writer.proofs.lengths.state_lines.Statement.{statement}
@@ -18,7 +18,7 @@ use Rattle.writer.proofs.lengths.state_lines.Tie as tie
 abbrev Inv-loop : tie.InvT-loop
 Inv-loop states cells state signals names first total₀ left₀ total left =
     (left < 2 ^ 32) × (first ≡ state * 32) × Named left (texts names) × (total + 34 * left ≤ 34 * signals)
-    × Counted (stateLines states cells (texts names) state) total (stepsBy states cells (texts names) state left)
+    × Counted (stateLines states cells (texts names) state signals) total (stateLines states cells (texts names) state left)
 
 abbrev μ-loop : tie.MeasureT-loop
 μ-loop states cells state signals names first total₀ left₀ total left = left
@@ -46,7 +46,7 @@ mul-first c = search needs
 loop-holds : tie.Need-loop-holds Inv-loop μ-loop
 loop-holds c =
     let s = c .before in
-    (search needs, refl, s .pre .0 .named, omega arith, counted-none _ _ (steps-by _ _ _ (s .args .state) _ (s .pre .0) (s .pre .1)))
+    (search needs, refl, s .pre .1 .0, omega arith, counted-none _ _ refl)
 
 lowest-requires : tie.Need-lowest-requires Inv-loop μ-loop
 lowest-requires c κs = search needs
@@ -97,13 +97,15 @@ loop-again c =
       rw (c .rest .ensures) (named-rest _ (l .loop .left) (l .loop .inv .0) more (l .loop .inv .2)),
       omega (arith, l .loop .inv .3, p .cell-line .ensures .1, pow-pos (trailingZeros 32 (l .loop .left)), c .rest .ensures),
       steps-counted _ _ _ _ _ (l .loop .inv .0) more (v .lowest .ensures) (c .rest .ensures) _ _ (name-lent (s .args .names .now) _ _ (entry v)) _
-          (s .args .states) (s .args .cells .now) (s .args .state) _ (l .loop .inv .1) (l .loop .inv .4) (s .pre .1) (s .pre .0 .size) (p .cell-line .ensures .0),
+          (s .args .states) (s .args .cells .now) (s .args .state) _ (l .loop .inv .1) (l .loop .inv .4) (s .pre .1 .1) (s .pre .0 .size) (p .cell-line .ensures .0),
     )
 
 returns : tie.Need-returns Inv-loop μ-loop
 returns c =
-    let i = c .before .loop .inv in
-    (counted-all _ _ _ (i .4) (steps-none _ _ _ _ (c .before .loop .left) (c .loop-test .left)), omega (arith, i .3, c .before .before .before .fits .signals .fits))
+    let l = c .before .loop in
+    let s = c .before .before .before in
+    let none = steps-none (s .args .states) (s .args .cells .now) (texts (s .args .names .now)) (s .args .state) (l .left) (c .loop-test .left) in
+    (counted-all _ _ _ (l .inv .4) none, omega (arith, l .inv .3, s .fits .signals .fits))
 
 pub state-lines-spec : {M : Type 1} → statement M
 state-lines-spec =

@@ -1,3 +1,4 @@
+use mathlib.Core.Path.{_≡_, refl}
 use Prim.Native.Nat.{_-_, _*_, _^_, _≤_}
 use native.Mathlib.Omega.{arith}
 use Rattle.names.specs.Names.{texts}
@@ -9,23 +10,29 @@ use Rattle.writer.proofs.lengths.step_lines.Statement.{statement}
 use Rattle.writer.proofs.lengths.step_lines.Tie as tie
 
 abbrev Inv-loop : tie.InvT-loop
-Inv-loop states cells signals names total₀ s₀ total s =
-    (s ≤ states) × (total ≤ s * (34 * 2 ^ 32)) × Counted (stepLines states cells (texts names)) total (rowsFrom states cells (texts names) s)
+Inv-loop a cells names signals total₀ s₀ s-end total s =
+    (s ≤ a .states) × (s-end ≡ a .states) × (total ≤ s * (34 * 2 ^ 32)) × Counted (stepLines (a .states) cells (texts names)) total (rowsFrom (a .states) cells (texts names) s)
 
 abbrev μ-loop : tie.MeasureT-loop
-μ-loop states cells signals names total₀ s₀ total s = states - s
+μ-loop a cells names signals total₀ s₀ s-end total s = a .states - s
+
+declared-requires : tie.Need-declared-requires Inv-loop μ-loop
+declared-requires c κs = search needs
 
 loop-holds : tie.Need-loop-holds Inv-loop μ-loop
-loop-holds c = (omega arith, omega arith, counted-none _ _ (rows-all _ _ _))
+loop-holds c = (omega arith, refl, omega arith, counted-none _ _ (rows-all _ _ _))
 
 state-lines-requires : tie.Need-state-lines-requires Inv-loop μ-loop
-state-lines-requires c κs = search needs
+state-lines-requires c κs =
+    let e = c .before .before in
+    let s = e .before .before in
+    (s .pre .0, (rw (e .declared .ensures) (s .pre .1 .0), omega arith))
 
 add-total : tie.Need-add-total Inv-loop μ-loop
 add-total c =
     let l = c .before .before in
-    let s = l .before .before in
-    omega (arith, l .loop .inv .1, s .pre .few, c .state-lines .ensures .1)
+    let s = l .before .before .before in
+    omega (arith, l .loop .inv .1, l .loop .inv .2, s .pre .0 .few, c .state-lines .ensures .1)
 
 add-s : tie.Need-add-s Inv-loop μ-loop
 add-s c = search needs
@@ -37,19 +44,21 @@ loop-again : tie.Need-loop-again Inv-loop μ-loop
 loop-again c =
     let i = c .before in
     let l = i .before .loop in
-    let s = i .before .before .before in
+    let e = i .before .before in
+    let s = e .before .before in
     let a = s .args in (
       omega arith,
-      omega (arith, l .inv .1, c .state-lines .ensures .1),
-      counted-next _ _ _ (l .inv .2) (stateLines (a .states) (a .cells .now) (texts (a .names .now)) (l .s)) _ _
-          (rows-next (a .states) (a .cells .now) (texts (a .names .now)) (l .s) (i .loop-test .taken)) (c .state-lines .ensures .0),
+      l .inv .1,
+      omega (arith, l .inv .2, c .state-lines .ensures .1),
+      counted-next _ _ _ (l .inv .3) (stateLines (a .a .states) (a .cells .now) (texts (a .names .now)) (l .s) _) _ _
+          (rows-next (a .a .states) (a .cells .now) (texts (a .names .now)) _ (rw (e .declared .ensures) (s .pre .1 .1)) (l .s) (omega arith)) (c .state-lines .ensures .0),
     )
 
 returns : tie.Need-returns Inv-loop μ-loop
 returns c =
     let l = c .before .loop in
-    let a = c .before .before .before .args in
-    (counted-all _ _ _ (l .inv .2) (rows-none (a .states) (a .cells .now) (texts (a .names .now)) (l .s) (omega arith)), omega (arith, l .inv .1))
+    let a = c .before .before .before .before .args in
+    (counted-all _ _ _ (l .inv .3) (rows-none (a .a .states) (a .cells .now) (texts (a .names .now)) (l .s) (omega arith)), omega (arith, l .inv .1, l .inv .2))
 
 pub step-lines-spec : {M : Type 1} → statement M
 step-lines-spec =
@@ -57,6 +66,7 @@ step-lines-spec =
     (tie.spec
     Inv-loop
     μ-loop
+    declared-requires
     loop-holds
     state-lines-requires
     add-total

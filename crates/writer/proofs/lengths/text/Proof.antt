@@ -1,7 +1,7 @@
 use native.Mathlib.Omega.{arith}
 use Rattle.emit.proofs.Decimal.{decimal-most}
 use Rattle.names.specs.Names.{texts}
-use Rattle.writer.proofs.Lines.{text-writable}
+use Rattle.writer.proofs.Lines.{text-known, text-writable}
 use Rattle.writer.proofs.Counted.{text-long}
 use borrow.Author.Needs.{needs}
 use Rattle.writer.proofs.lengths.text.Statement.{statement}
@@ -36,7 +36,8 @@ add-result c =
 step-lines-requires : tie.Need-step-lines-requires
 step-lines-requires c κs =
     let s = c .before .before .before .before .before .before in
-    text-writable (s .args .a) (s .args .cells .now) _ _ (c .before .declared .ensures) (s .pre .0) (s .pre .1 .0)
+    let a = s .args in
+    (text-writable (a .a) (a .cells .now) (texts (a .names .now)) (s .pre .0) (s .pre .1 .0), (s .pre .1 .0, text-known (a .a) (a .cells .now) (texts (a .names .now)) (s .pre .0)))
 
 add-result-2 : tie.Need-add-result-2
 add-result-2 c =

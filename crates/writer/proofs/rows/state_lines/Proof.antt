@@ -2,37 +2,29 @@ use mathlib.Core.Path.{_≡_, refl}
 use Prim.Native.Nat.{_*_, _^_, _<_}
 use native.Mathlib.Omega.{arith}
 use lib.Count.{trailingZeros}
-use lib.ListN.{length}
 use lib.Pow.{pow-pos}
 use Rattle.sets.proofs.Visit.{low}
 use Rattle.emit.proofs.Buffer.{Left, left-all, left-next, left-none}
-use Rattle.names.specs.Names.{texts, Named}
-use Rattle.names.proofs.Names.{lent-length, named-lowest, named-rest}
+use Rattle.names.specs.Names.{texts}
 use Rattle.writer.specs.Rows.{stateLines}
-use Rattle.writer.proofs.Lines.{stepsBy, steps-by, steps-next, steps-none}
+use Rattle.writer.proofs.Lines.{entry-lent, steps-next, steps-none}
 use borrow.Author.Needs.{needs}
 use Rattle.writer.proofs.rows.state_lines.Statement.{statement}
 use Rattle.writer.proofs.rows.state_lines.Tie as tie
 
 abbrev Inv-loop : tie.InvT-loop
 Inv-loop d₀ at states cells state signals names first end₀ left₀ d end left =
-    (left < 2 ^ 32) × (first ≡ state * 32) × Named left (texts names)
-    × Left d₀ at (stateLines states cells (texts names) state) d end (stepsBy states cells (texts names) state left)
+    (left < 2 ^ 32) × (first ≡ state * 32)
+    × Left d₀ at (stateLines states cells (texts names) state signals) d end (stateLines states cells (texts names) state left)
 
 abbrev μ-loop : tie.MeasureT-loop
 μ-loop d₀ at states cells state signals names first end₀ left₀ d end left = left
 
--- The visited signal is one of the 32, and has an entry.
+-- The visited signal is one of the 32.
 below : (c : tie.After-lowest Inv-loop μ-loop) → c .lowest .result < 32
 below c =
     let l = c .before .before .loop in
     omega (arith, low 32 (l .left) (omega arith) (l .inv .0) .lowest .below, c .lowest .ensures)
-
-entry : (c : tie.After-lowest Inv-loop μ-loop) → c .lowest .result < length (c .before .before .before .before .before .args .names .now)
-entry c =
-    let l = c .before .before in
-    let names = l .before .before .before .args .names .now in
-    omega (arith, named-lowest _ (l .loop .left) (l .loop .inv .0) (c .before .loop-test .taken) (l .loop .inv .2), lent-length names, c .lowest .ensures)
 
 mul-first : tie.Need-mul-first Inv-loop μ-loop
 mul-first c = search needs
@@ -40,7 +32,7 @@ mul-first c = search needs
 loop-holds : tie.Need-loop-holds Inv-loop μ-loop
 loop-holds c =
     let s = c .before .before in
-    (search needs, refl, s .pre .0 .named, left-all _ _ _ _ (steps-by _ _ _ (s .args .state) _ (s .pre .0) (s .pre .1)))
+    (search needs, refl, left-all _ _ _ _ refl)
 
 lowest-requires : tie.Need-lowest-requires Inv-loop μ-loop
 lowest-requires c κs = search needs
@@ -58,7 +50,11 @@ shared-slice-read-cell-line : tie.Need-shared-slice-read-cell-line Inv-loop μ-l
 shared-slice-read-cell-line c = omega (arith, below (c .before .before))
 
 cell-line-requires : tie.Need-cell-line-requires Inv-loop μ-loop
-cell-line-requires c κs = λ h. entry (c .before .before)
+cell-line-requires c κs =
+    let v = c .before .before in
+    let l = v .before .before in
+    let s = l .before .before .before in
+    entry-lent (s .args .states) (s .args .cells .now) (s .args .names .now) (s .pre .0) (s .args .state) _ _ (l .loop .inv .1) (s .pre .1) (below v)
 
 rest-requires : tie.Need-rest-requires Inv-loop μ-loop
 rest-requires c κs = search needs
@@ -77,8 +73,7 @@ loop-again c =
     let more = v .before .loop-test .taken in (
       omega (arith, c .rest .ensures),
       l .loop .inv .1,
-      rw (c .rest .ensures) (named-rest _ (l .loop .left) (l .loop .inv .0) more (l .loop .inv .2)),
-      left-next _ _ _ _ _ _ (l .loop .inv .3) _ _ _ _
+      left-next _ _ _ _ _ _ (l .loop .inv .2) _ _ _ _
           (steps-next (s .args .states) (s .args .cells .now) _ (s .args .state) _ (l .loop .left) _ (l .loop .inv .1) (l .loop .inv .0) more (s .pre .1) (s .pre .0 .size)
           (v .lowest .ensures) _ (c .rest .ensures))
           (p .cell-line .ensures),
@@ -88,7 +83,10 @@ same-length : tie.Need-same-length Inv-loop μ-loop
 same-length c = search needs
 
 returns : tie.Need-returns Inv-loop μ-loop
-returns c = left-none _ _ _ _ _ _ (c .before .loop .inv .3) (steps-none _ _ _ _ (c .before .loop .left) (c .loop-test .left))
+returns c =
+    let l = c .before .loop in
+    let a = c .before .before .before .before .args in
+    left-none _ _ _ _ _ _ (l .inv .2) (steps-none (a .states) (a .cells .now) (texts (a .names .now)) (a .state) (l .left) (c .loop-test .left))
 
 pub state-lines-spec : {M : Type 1} → statement M
 state-lines-spec =

@@ -1,3 +1,4 @@
+use mathlib.Core.Path.{_≡_, refl}
 use Prim.Native.Nat.{_-_, _≤_}
 use native.Mathlib.Omega.{arith}
 use Rattle.emit.proofs.Buffer.{Left, left-all, left-next, left-none}
@@ -8,15 +9,20 @@ use borrow.Author.Needs.{needs}
 use Rattle.writer.proofs.rows.step_lines.Statement.{statement}
 use Rattle.writer.proofs.rows.step_lines.Tie as tie
 
+-- What is put, and the lines of the states to come, are all steps.
 abbrev Inv-loop : tie.InvT-loop
-Inv-loop d₀ at states cells signals names end₀ s₀ d end s =
-    (s ≤ states) × Left d₀ at (stepLines states cells (texts names)) d end (rowsFrom states cells (texts names) s)
+Inv-loop d₀ at a cells names signals end₀ s₀ s-end d end s =
+    (s ≤ a .states) × (s-end ≡ a .states)
+    × Left d₀ at (stepLines (a .states) cells (texts names)) d end (rowsFrom (a .states) cells (texts names) s)
 
 abbrev μ-loop : tie.MeasureT-loop
-μ-loop d₀ at states cells signals names end₀ s₀ d end s = states - s
+μ-loop d₀ at a cells names signals end₀ s₀ s-end d end s = a .states - s
+
+declared-requires : tie.Need-declared-requires Inv-loop μ-loop
+declared-requires c κs = search needs
 
 loop-holds : tie.Need-loop-holds Inv-loop μ-loop
-loop-holds c = (omega arith, left-all _ _ _ _ (rows-all _ _ _))
+loop-holds c = (omega arith, refl, left-all _ _ _ _ (rows-all _ _ _))
 
 state-lines-requires : tie.Need-state-lines-requires Inv-loop μ-loop
 state-lines-requires c κs = search needs
@@ -31,9 +37,12 @@ loop-again : tie.Need-loop-again Inv-loop μ-loop
 loop-again c =
     let i = c .before .before .before .before in
     let l = i .before .loop in
-    let a = i .before .before .before .before .args in (
+    let e = i .before .before in
+    let s = e .before .before .before in
+    let a = s .args in (
       omega arith,
-      left-next _ _ _ _ _ _ (l .inv .1) _ _ _ _ (rows-next (a .states) (a .cells .now) (texts (a .names .now)) (l .s) (i .loop-test .taken)) (c .before .before .state-lines .ensures),
+      l .inv .1,
+      left-next _ _ _ _ _ _ (l .inv .2) _ _ _ _ (rows-next (a .a .states) (a .cells .now) (texts (a .names .now)) _ (rw (e .declared .ensures) (s .pre .1)) (l .s) (omega arith)) (c .before .before .state-lines .ensures),
     )
 
 same-length : tie.Need-same-length Inv-loop μ-loop
@@ -42,8 +51,8 @@ same-length c = search needs
 returns : tie.Need-returns Inv-loop μ-loop
 returns c =
     let l = c .before .loop in
-    let a = c .before .before .before .before .args in
-    left-none _ _ _ _ _ _ (l .inv .1) (rows-none (a .states) (a .cells .now) (texts (a .names .now)) (l .s) (omega arith))
+    let a = c .before .before .before .before .before .args in
+    left-none _ _ _ _ _ _ (l .inv .2) (rows-none (a .a .states) (a .cells .now) (texts (a .names .now)) (l .s) (omega arith))
 
 pub step-lines-spec : {M : Type 1} → statement M
 step-lines-spec =
@@ -51,6 +60,7 @@ step-lines-spec =
     (tie.spec
     Inv-loop
     μ-loop
+    declared-requires
     loop-holds
     state-lines-requires
     add-s

@@ -1,5 +1,5 @@
 use Rattle.names.specs.Names.{texts}
-use Rattle.writer.proofs.Lines.{text-writable, text-put}
+use Rattle.writer.proofs.Lines.{text-known, text-writable, text-put}
 use borrow.Author.Needs.{needs}
 use Rattle.writer.proofs.rows.text.Statement.{statement}
 use Rattle.writer.proofs.rows.text.Tie as tie
@@ -13,12 +13,13 @@ declared-requires c κs = search needs
 signal-lines-requires : tie.Need-signal-lines-requires
 signal-lines-requires c κs =
     let s = c .before .before .before .before .before .before .before .before .before in
-    rw (c .before .declared .ensures) (s .pre .1)
+    rw (c .declared .ensures) (s .pre .1)
 
 step-lines-requires : tie.Need-step-lines-requires
 step-lines-requires c κs =
     let s = c .before .before .before .before .before .before .before .before .before .before .before .before .before in
-    text-writable (s .args .a) (s .args .cells .now) _ _ (c .before .before .before .before .before .declared .ensures) (s .pre .0) (s .pre .1)
+    let a = s .args in
+    (text-writable (a .a) (a .cells .now) (texts (a .names .now)) (s .pre .0) (s .pre .1), text-known (a .a) (a .cells .now) (texts (a .names .now)) (s .pre .0))
 
 same-length : tie.Need-same-length
 same-length c = search needs
@@ -29,7 +30,7 @@ returns c =
     let j = k .before .before .before .before in
     let i = j .before .before .before .before .before in
     let a = i .before .before .before .before .before .args in
-    text-put (a .a) (a .cells .now) (texts (a .names .now)) (a .name .now) _ _ _ _ _ _ _ (i .table-line .ensures) _ (j .before .before .declared .ensures) (j .signal-lines .ensures) (k .step-lines .ensures)
+    text-put (a .a) (a .cells .now) (texts (a .names .now)) (a .name .now) _ _ _ _ _ _ _ (i .table-line .ensures) _ (j .before .declared .ensures) (j .signal-lines .ensures) (k .step-lines .ensures)
 
 pub text-spec : {M : Type 1} → statement M
 text-spec =
