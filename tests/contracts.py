@@ -4,7 +4,7 @@ stands at exit in each buffer that it is lent to write to, is given by an equati
 of a buffer at exit; of a part that it returns, the bytes and the place are. And no symbol that a contract or a definition takes from the kit's
 library is given another meaning in specs/. The exit status says so. tests/contracts_test.py feeds it contracts that are wrong.
 
-A contract by a definition of another form is named below, with the words that stand for the equation: what these say has to be read."""
+The one contract of another form is named below, with the words that stand for the equation: what these say has to be read."""
 import glob
 import os
 import re
@@ -15,15 +15,9 @@ from verdict import tell
 
 TOP = os.path.join(os.path.dirname(os.path.abspath(__file__)), "..")
 
-# The order of a state's steps is open in the writer, and which bytes a file holds in files; a report is given by one definition for all of its buffers.
+# Which bytes a file holds, and whether it can be read, is the operating system's.
 OTHERWISE = {
     ("files", "read"): "Reads r (now (buf .entry)) (now (buf .exit))",
-    ("writer", "write"): "Written (table a (now (cells .entry)))",
-    ("labels", "write_text"): "Written (table header (now (cells .entry)))",
-    ("report", "report"): "Told (now (m .entry))",
-    ("program", "program"): "Ran first second",
-    ("harness", "harness_write"): "Written (tableOf states initial inputs outputs (now (cells .entry)))",
-    ("harness", "harness_report"): "Told (now (m .entry))",
 }
 
 # A clause over the result, which is `r`; of the last one the brace of the body follows.

@@ -66,11 +66,11 @@ CONTRACTS = [
 ]
 
 # A contract of another form, by the words that stand for the equation: they have to be all of a statement, or its beginning.
-WORDS = "Told (now (m .entry))"
+WORDS = "Reads r (now (buf .entry))"
 OTHERWISE = [
-    ("Told (now (m .entry)) r", []),
-    ("Told (now (m .entry)) r → Unit {0}", [RESULT]),
-    ("length (Told (now (m .entry)) r) ≡ 0", [RESULT]),
+    ("Reads r (now (buf .entry)) r", []),
+    ("Reads r (now (buf .entry)) r → Unit {0}", [RESULT]),
+    ("length (Reads r (now (buf .entry)) r) ≡ 0", [RESULT]),
 ]
 
 # The records that the contracts above lend.

@@ -21,8 +21,8 @@ use Rattle.synthesis.specs.declared.Synthesis.{Synthesis}
 use Rattle.synthesis.specs.declared.Synthesis.the-variants as made
 use Rattle.synthesis.specs.Replies.{decidedOf, synthesisReply, synthesisCells, synthesisFlags}
 use Rattle.printout.specs.Lines.{refusalText, figures}
-use Rattle.report.specs.Report.{textChecks, withText, unlessLine, reportChecks, resultText}
-use Rattle.report.specs.Parts.{sixOf, isRefused, Answers, replyChecked, replyText, Makes}
+use Rattle.report.specs.Report.{textChecks, withText, reportChecks, resultText}
+use Rattle.report.specs.Parts.{sixOf, isRefused, answerText, Answers, replyChecked, replyText, Makes}
 
 -- ---- the six lines over the buffers
 
@@ -71,7 +71,7 @@ module _ (m p : List ℕ) (a b : Table) (cells flags cells′ flags′ : List �
 
   -- What is told of the reply is what is told of the tables.
   abbrev Same : Type 0
-  Same = (replyChecked m p s cells′ ≡ whole) × (unlessLine (replyChecked m p s cells′) (replyText m p s cells′ flags′) ≡ unlessLine whole (resultText m p a b))
+  Same = (replyChecked m p s cells′ ≡ whole) × (answerText (replyChecked m p s cells′) (replyText m p s cells′ flags′) ≡ answerText whole (resultText m p a b))
 
   makes : Same → (whole ≡ Accepted → (cells′ ≡ t .cells) × (flags′ ≡ synthesis a b .flags)) → Makes m p a b n out refused e cells′ flags′ out′
   makes (k, l) result = record {
@@ -171,7 +171,7 @@ module _ (m p : List ℕ) (a b : Table) (cells flags cells′ flags′ : List �
           ∙ six false ∙ sym result-none
 
     accepted-made : replyChecked m p s cells′ ≡ whole → replyText m p s cells′ flags′ ≡ resultText m p a b → Makes m p a b n out refused e cells′ flags′ out′
-    accepted-made k l = makes (k, λ i. unlessLine (k i) (l i)) (λ q. (cells-are, flags-are))
+    accepted-made k l = makes (k, λ i. answerText (k i) (l i)) (λ q. (cells-are, flags-are))
 
   pub pairs-made : Makes m p a b n out refused e cells′ flags′ out′
   pairs-made = by-check checked refl

@@ -29,7 +29,7 @@ use Rattle.text.proofs.Decimal.{Digits, digits-of}
 use Rattle.emit.specs.Buffer.{stored}
 use Rattle.emit.proofs.Buffer.{stored-front}
 use Rattle.printout.specs.Lines.{refusalText, figures}
-use Rattle.report.specs.Report.{lentPairs, roomOf, reportChecks, resultText, checkedOf, textRead, reportText, buffersRefused, buffersMade, buffersRead, reportBuffers}
+use Rattle.report.specs.Report.{lentPairs, roomOf, reportChecks, resultText, Buffers, checkedOf, byReading, reportText, buffersRefused, buffersMade, reportBuffers}
 use Rattle.report.proofs.Whole.{lent-fits}
 
 -- What is printed of a number below 100,000 is its decimal: digits, five at most, no needless zero before them, and their value is the number.
@@ -223,17 +223,23 @@ module _ (m p cm cp cells flags : List ℕ) where
   abbrev checked : Reading → Reading → Checked
   checked = checkedOf m p cm cp cells flags
 
-  line-leaves : (j : Joint) (file number line : ℕ) → textRead m p cm cp cells flags j ≡ refusalText file number line
-      → buffersRead m p cm cp cells flags j ≡ buffersRefused m p cm cp cells flags
+  abbrev textBy : Joint → List ℕ
+  textBy = byReading m p cm cp cells flags refusalText (λ x y. resultText m p (tableRead x) (tableRead y))
+
+  abbrev buffersBy : Joint → Buffers
+  buffersBy = byReading m p cm cp cells flags (λ file number line. buffersRefused m p cm cp cells flags) (buffersMade m p cm cp cells flags)
+
+  line-leaves : (j : Joint) (file number line : ℕ) → textBy j ≡ refusalText file number line
+      → buffersBy j ≡ buffersRefused m p cm cp cells flags
   unfolding resultText
   line-leaves (neither r) file number line e = refl
   line-leaves (both x y) file number line e = go (checked x y) refl
     where
-      go : (k : Checked) → checked x y ≡ k → buffersRead m p cm cp cells flags (both x y) ≡ buffersRefused m p cm cp cells flags
+      go : (k : Checked) → checked x y ≡ k → buffersBy (both x y) ≡ buffersRefused m p cm cp cells flags
       go Accepted q = absurd (six-no-line _ (synthesis (tableRead x) (tableRead y) .compatible) _ _ _ _ _ _ file number line (rw q at e))
       go (Refused r) q = rw q
 
-  no-line-passed : (j : Joint) → ((file number line : ℕ) → textRead m p cm cp cells flags j ≡ refusalText file number line → ⊥)
+  no-line-passed : (j : Joint) → ((file number line : ℕ) → textBy j ≡ refusalText file number line → ⊥)
       → Passed m p cm cp cells flags j
   no-line-passed (neither r) h = absurd (h (r .text) (r .number) (r .line) refl)
   no-line-passed (both x y) h = go (checked x y) refl
@@ -277,5 +283,5 @@ module _ (m p cm cp cells flags : List ℕ) where
       stored-front cells (synthesis a b .cells) (omega arith) ∙ rw n in
       let f : stored flags 0 (synthesis a b .flags) ≡ synthesis a b .flags ++ drop (controller a b .header .states) flags =
       stored-front flags (synthesis a b .flags) (omega arith) ∙ rw k in
-      let made : buffersRead m p cm cp cells flags j ≡ buffersMade m p cm cp cells flags x y = ap (buffersRead m p cm cp cells flags) (w .read) ∙ rw (w .accepted) in
+      let made : buffersBy j ≡ buffersMade m p cm cp cells flags x y = ap buffersBy (w .read) ∙ rw (w .accepted) in
       (x, y, w .read, made ∙ (λ i. (x .cells, y .cells, c i, f i)))

@@ -15,9 +15,10 @@ use Rattle.theory.proofs.Tests.{or-left}
 use Rattle.text.specs.Reading.{Joint, both, neither, readBoth, tableRead}
 use Rattle.text.specs.Writing.{wholeText, textLength, writerChecks}
 use Rattle.labels.specs.Names.{sequencerWord, signalNames}
-use Rattle.printout.specs.Lines.{figures}
+use Rattle.printout.specs.Lines.{refusalText, figures}
 use Rattle.printout.proofs.Short.{refusal-short, figures-short}
-use Rattle.report.specs.Report.{lentPairs, roomOf, textChecks, unlessLine, reportChecks, resultText, textRead, reportText}
+use Rattle.report.specs.Report.{lentPairs, roomOf, textChecks, reportChecks, resultText, byReading, reportText}
+use Rattle.report.specs.Parts.{answerText}
 
 text-fits : (t : Table) (name : List ℕ) (names : List (List ℕ)) → first (writerChecks t name names 65536) ≡ Accepted → length (wholeText t name names) ≤ 65536
 unfolding writerChecks textLength
@@ -27,7 +28,7 @@ text-fits t name names e =
     nltb→le 65536 n (not-T (ltb 65536 n) (λ u. c (or-left (ltb 65536 n) (ltb 65536 n) u)))
 
 module _ (m p : List ℕ) where
-  made-short : (a b : Table) (n : ℕ) → length (unlessLine (first (reportChecks m p a b n)) (resultText m p a b)) ≤ 65608
+  made-short : (a b : Table) (n : ℕ) → length (answerText (first (reportChecks m p a b n)) (resultText m p a b)) ≤ 65608
   unfolding resultText reportChecks textChecks
   made-short a b n = go (first (reportChecks m p a b n)) refl (synthesis a b .compatible) refl
     where
@@ -44,7 +45,7 @@ module _ (m p : List ℕ) where
       fits e v = let w = first-part (synthesisChecks a b (n * 32) n) _ e .1 in text-fits (controller a b) sequencerWord (signalNames m p) (rw v at w)
 
       go : (k : Checked) → first (reportChecks m p a b n) ≡ k → (v : Bool) → synthesis a b .compatible ≡ v
-          → length (unlessLine k (cond v (six v ++ text) (six v))) ≤ 65608
+          → length (answerText k (cond v (six v ++ text) (six v))) ≤ 65608
       go Accepted e true h = omega (arith, length-append (six true) text, short true, fits e h)
       go Accepted e false h = omega (arith, short false)
       go (Refused r) e v h = omega (arith, refusal-short (r .table) (r .number) 0)
@@ -53,6 +54,6 @@ module _ (m p : List ℕ) where
   unfolding reportText
   report-short cm cp cells flags = go (readBoth (length cm) m (length cp) p)
     where
-      go : (j : Joint) → length (textRead m p cm cp cells flags j) ≤ 65608
+      go : (j : Joint) → length (byReading m p cm cp cells flags refusalText (λ x y. resultText m p (tableRead x) (tableRead y)) j) ≤ 65608
       go (both x y) = made-short (tableRead x) (tableRead y) (lentPairs (tableRead x) (tableRead y) (roomOf (length cells) (length flags)))
       go (neither r) = omega (arith, refusal-short (r .text) (r .number) (r .line))

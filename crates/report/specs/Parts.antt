@@ -13,8 +13,8 @@ use Rattle.emit.specs.Buffer.{stored, after}
 use Rattle.counts.specs.Cells.{stepsIn, endsIn}
 use Rattle.synthesis.specs.declared.Synthesis.{Synthesis}
 use Rattle.synthesis.specs.declared.Synthesis.the-variants as made
-use Rattle.printout.specs.Lines.{figures}
-use Rattle.report.specs.Report.{lentPairs, roomOf, textChecks, withText, unlessLine, reportChecks, resultText}
+use Rattle.printout.specs.Lines.{refusalText, figures}
+use Rattle.report.specs.Report.{lentPairs, roomOf, textChecks, withText, reportChecks, resultText}
 
 -- The six lines over what stands in the maker's buffers.
 unfoldable pub sixOf : Bool → ℕ → ℕ → List ℕ → List ℕ → List ℕ
@@ -24,11 +24,15 @@ sixOf compatible states rounds cells flags = figures compatible states (keptCoun
 abbrev pub isRefused : Checked → Bool
 isRefused c = unlessRefused c (λ r. true) false
 
--- The text, or the line of the refusal c in place of it, stands from the first byte on and ends at `end`; bytes past it stay.
+-- The line of a refusal after the reading, if there is one; else the text.
+abbrev pub answerText : Checked → List ℕ → List ℕ
+answerText c text = unlessRefused c (λ r. refusalText (r .table) (r .number) 0) text
+
+-- The answer stands from the first byte on and ends at `end`; bytes past it stay.
 pub record Answers (c : Checked) (text bytes : List ℕ) (refused : Bool) (end : ℕ) (bytes′ : List ℕ) : Type 0 where
   pub refuses : refused ≡ isRefused c
-  pub ends : end ≡ after (length bytes) 0 (unlessLine c text)
-  pub stands : bytes′ ≡ stored bytes 0 (unlessLine c text)
+  pub ends : end ≡ after (length bytes) 0 (answerText c text)
+  pub stands : bytes′ ≡ stored bytes 0 (answerText c text)
 
 -- ---- by the maker's reply, and what stands in its buffers
 

@@ -36,10 +36,6 @@ textChecks m p t = writerChecks t sequencerWord (signalNames m p) 65536
 abbrev pub withText : List ℕ → List ℕ → Table → List ℕ → List ℕ
 withText m p t six = six ++ wholeText t sequencerWord (signalNames m p)
 
--- The line of a refusal after the reading, if there is one; else the text.
-abbrev pub unlessLine : Checked → List ℕ → List ℕ
-unlessLine c text = unlessRefused c (λ r. refusalText (r .table) (r .number) 0) text
-
 module _ (m p : List ℕ) (a b : Table) where
   -- The checks after the reading, where the maker is given buffers of n pairs: the maker's and, with yes, the writer's.
   unfoldable pub reportChecks : ℕ → List Check
@@ -67,15 +63,16 @@ module _ (m p cm cp cells flags : List ℕ) where
       let b = tableRead y in
       first (reportChecks m p a b (lentPairs a b (roomOf (length cells) (length flags))))
 
-  abbrev pub textRead : Joint → List ℕ
-  textRead (both x y) = unlessLine (checkedOf x y) (resultText m p (tableRead x) (tableRead y))
-  textRead (neither r) = refusalText (r .text) (r .number) (r .line)
+  -- By what was read: of the first refusal, of the reading or after it, the file, the number and the line; else module and plan as read.
+  abbrev pub byReading : {A : Type 0} → (ℕ → ℕ → ℕ → A) → (Reading → Reading → A) → Joint → A
+  byReading refused made (both x y) = unlessRefused (checkedOf x y) (λ r. refused (r .table) (r .number) 0) (made x y)
+  byReading refused made (neither r) = refused (r .text) (r .number) (r .line)
 
   -- All that is printed.
   unfoldable pub reportText : List ℕ
-  reportText = textRead (readBoth (length cm) m (length cp) p)
+  reportText = byReading refusalText (λ x y. resultText m p (tableRead x) (tableRead y)) (readBoth (length cm) m (length cp) p)
 
-  -- After a refusal, of the reading or after it: two tables without steps, and the result's buffers as they were.
+  -- After a refusal: two tables without steps, and the result's buffers as they were.
   abbrev pub buffersRefused : Buffers
   buffersRefused = (replicate (length cm) 65535, replicate (length cp) 65535, cells, flags)
 
@@ -83,10 +80,6 @@ module _ (m p cm cp cells flags : List ℕ) where
   abbrev pub buffersMade : Reading → Reading → Buffers
   buffersMade x y = let s = synthesis (tableRead x) (tableRead y) in (x .cells, y .cells, stored cells 0 (s .cells), stored flags 0 (s .flags))
 
-  abbrev pub buffersRead : Joint → Buffers
-  buffersRead (both x y) = unlessRefused (checkedOf x y) (λ r. buffersRefused) (buffersMade x y)
-  buffersRead (neither r) = buffersRefused
-
   -- What is left in the four buffers.
   unfoldable pub reportBuffers : Buffers
-  reportBuffers = buffersRead (readBoth (length cm) m (length cp) p)
+  reportBuffers = byReading (λ file number line. buffersRefused) buffersMade (readBoth (length cm) m (length cp) p)

@@ -3,4 +3,3 @@ pub mod Lines
 pub mod Reading
 pub mod Writing
 pub mod Lookup
-pub mod Example
