@@ -2,7 +2,7 @@
 use mathlib.Core.Path.{_≡_, refl, sym, subst, ap, _∙_}
 use mathlib.Core.Bool.{Bool, true, false, _||_, cond}
 use mathlib.Core.List.{List, [], _∷_, map}
-use Prim.Native.Nat.{ℕ, _+_, _≤_, _<_}
+use Prim.Native.Nat.{ℕ, suc, _+_, _-_, _≤_, _<_}
 use native.Mathlib.Omega.{arith}
 use lib.Dec.{T}
 use lib.ListN.{length, getD}
@@ -14,15 +14,14 @@ use Rattle.text.specs.declared.Role.{Role}
 use Rattle.text.specs.declared.Role.the-variants.{Input, Output}
 use Rattle.text.specs.Lines.{roleWord, byKind}
 use Rattle.text.specs.Reading.{Signal, Reading, next, indexOf, withRole, known, entered}
-use Rattle.text.specs.Writing.{roleOf, nameOf, signalRow}
-use Rattle.text.proofs.Occurrences.{occurrences, occurrences-here, occurrences-other, occurrences-more}
+use Rattle.text.specs.Writing.{those, signals, roleOf, nameOf, signalRow}
 use Rattle.text.proofs.Roles.{rolesAt, only, roles-here, roles-there}
 use Rattle.text.proofs.Entries.{declaring-next}
 use Rattle.text.proofs.Accepted.{with-states, with-initial}
 use Rattle.roundtrip.specs.RoundTrip.{place, different}
 use Rattle.roundtrip.proofs.Names.{place-name, number-first, namesIn, index-place, known-names}
-use Rattle.roundtrip.proofs.Lines.{Plain, Reaches, reaches-all}
-use Rattle.roundtrip.proofs.Left.{Left, left-blank, left-put}
+use Rattle.roundtrip.proofs.Lines.{Plain, Reaches, reaches-those}
+use Rattle.roundtrip.proofs.Put.{Put, put-blank, put-next, put-skip}
 use Rattle.roundtrip.proofs.Rows.{Writable, signal-plain, signal-entry}
 
 -- The lists of a table at a declared signal are those of its role.
@@ -56,25 +55,28 @@ module _ (t : Table) (name : List ℕ) (names final : List (List ℕ)) (w : Writ
       w .apart a b h k
       (sym (place-name (nameOf names a) final (n .within a h)) ∙ ap (λ i. getD final i []) e ∙ place-name (nameOf names b) final (n .within b k))
 
-  -- The declarations ds are left.
-  pub record Declaring (lent : List ℕ) (ds : List ℕ) (a : Reading) : Type 0 where
+  -- The declared signals below p are declared again, the others are left.
+  pub record Declaring (lent : List ℕ) (p : ℕ) (a : Reading) : Type 0 where
     pub stands : a .place ≡ Declarations
     pub states : a .header .states ≡ t .header .states
     pub initial : a .header .initial ≡ t .header .initial
     pub cells : a .cells ≡ lent
-    pub all : different (namesIn (a .signals)) (map (nameOf names) ds) ≡ final
-    pub roles : Left number (rolesAt (t .header)) (false, false) (λ x. T (declared t x)) (λ x. occurrences x ds) (rolesAt (a .header))
-    pub members : (x : ℕ) → 0 < occurrences x ds → T (declared t x)
-    pub once : (x : ℕ) → occurrences x ds ≤ 1
+    pub all : different (namesIn (a .signals)) (map (nameOf names) (those (declared t) p (32 - p))) ≡ final
+    pub roles : Put (λ x. x) number (rolesAt (t .header)) (false, false) (λ x. T (declared t x)) p (rolesAt (a .header))
+
+  -- The signals left from x on.
+  those-from : (x : ℕ) → x < 32 → those (declared t) x (32 - x) ≡ cond (declared t x) (x ∷ those (declared t) (suc x) (32 - suc x)) (those (declared t) (suc x) (32 - suc x))
+  unfolding those
+  those-from x h = let e : 32 - x ≡ suc (32 - suc x) = omega arith in rw e
 
   module _ (text : ℕ) (lent : List ℕ) where
-    one : (x : ℕ) (xs : List ℕ) (a : Reading) → Declaring lent (x ∷ xs) a
-        → Plain (signalRow t names x) × ((at : ℕ) → (m : Reading) × (entered text at a (byKind (a .place) (signalRow t names x)) ≡ next m) × Declaring lent xs m)
+    one : (x : ℕ) → x < 32 → declared t x ≡ true → (a : Reading) → Declaring lent x a
+        → Plain (signalRow t names x) × ((at : ℕ) → (m : Reading) × (entered text at a (byKind (a .place) (signalRow t names x)) ≡ next m) × Declaring lent (suc x) m)
     unfolding entered different
-    one x xs a u = (signal-plain t name names w x here, λ at. (after at, enter at, left at))
+    one x h is a u = (signal-plain t name names w x here, λ at. (after at, enter at, next-one at))
       where
         here : T (declared t x)
-        here = u .members x (omega (arith, occurrences-here x xs))
+        here = rw is tt
 
         r : Role
         r = roleOf t x
@@ -82,16 +84,21 @@ module _ (t : Table) (name : List ℕ) (names final : List (List ℕ)) (w : Writ
         i : ℕ
         i = indexOf (nameOf names x) (a .signals)
 
+        rest : List (List ℕ)
+        rest = map (nameOf names) (those (declared t) (suc x) (32 - suc x))
+
+        all : different (namesIn (a .signals)) (nameOf names x ∷ rest) ≡ final
+        all = rw (those-from x h, is) at (u .all)
+
         i-number : number x ≡ i
         i-number =
-            ap (place (nameOf names x)) (sym (u .all)) ∙ number-first (nameOf names x) (namesIn (a .signals)) (map (nameOf names) xs)
-            ∙ sym (index-place (nameOf names x) (a .signals))
+            ap (place (nameOf names x)) (sym all) ∙ number-first (nameOf names x) (namesIn (a .signals)) rest ∙ sym (index-place (nameOf names x) (a .signals))
 
         low : i < 32
         low = omega (arith, i-number, number-lt x here)
 
         free : rolesAt (a .header) i ≡ (false, false)
-        free = rw (← i-number) (left-blank number (rolesAt (t .header)) (false, false) (λ x. T (declared t x)) (u .roles) x here (omega (arith, occurrences-here x xs)))
+        free = rw (← i-number) (put-blank (λ x. x) number (rolesAt (t .header)) (false, false) (λ x. T (declared t x)) (u .roles) x here (omega arith))
 
         signal : ℕ → Signal
         signal at = record { name = nameOf names x; text = text; from = at + length (roleWord r) + 1 }
@@ -104,21 +111,31 @@ module _ (t : Table) (name : List ℕ) (names final : List (List ℕ)) (w : Writ
             ap (λ p. entered text at a (byKind p (signalRow t names x))) (u .stands) ∙ ap (entered text at a) (signal-entry t name names w x here)
             ∙ declaring-next a r (signal at) i (λ d. subst (λ p. T (p .0 || p .1)) free d) low
 
-        left : (at : ℕ) → Declaring lent xs (after at)
-        left at = record {
+        next-one : (at : ℕ) → Declaring lent (suc x) (after at)
+        next-one at = record {
           stands = refl;
           states = with-states r i (a .header) ∙ u .states;
           initial = with-initial r i (a .header) ∙ u .initial;
           cells = u .cells;
-          all = ap (λ l. different l (map (nameOf names) xs)) (known-names (a .signals) (signal at)) ∙ u .all;
+          all = ap (λ l. different l rest) (known-names (a .signals) (signal at)) ∙ all;
           roles =
-              left-put number (rolesAt (t .header)) (false, false) (λ x. T (declared t x)) x here (λ y h e. number-apart y x h here e) (u .roles)
-              (omega (arith, u .once x, occurrences-here x xs)) (λ y h d. sym (occurrences-other y x xs (λ e. d (sym e))))
+              put-next (λ x. x) number (rolesAt (t .header)) (false, false) (λ x. T (declared t x)) (u .roles) x here refl (λ y h e. number-apart y x h here e) (λ y h e. e)
               (rw i-number (roles-here r i (a .header) low free ∙ sym (role-only t x (w .valid) here)))
               (λ j d. roles-there r i (a .header) j low (λ e. d (e ∙ sym i-number)));
-          members = λ y h. u .members y (omega (arith, occurrences-more y x xs));
-          once = λ y. omega (arith, u .once y, occurrences-more y x xs);
         }
 
-    pub declarations : (ds : List ℕ) (at : ℕ) (a : Reading) → Declaring lent ds a → Reaches text (map (signalRow t names) ds) at a (Declaring lent [])
-    declarations = reaches-all text (signalRow t names) (Declaring lent) one
+    skip : (x : ℕ) → x < 32 → declared t x ≡ false → (a : Reading) → Declaring lent x a → Declaring lent (suc x) a
+    skip x h fails a u = record {
+      stands = u .stands;
+      states = u .states;
+      initial = u .initial;
+      cells = u .cells;
+      all = rw (those-from x h, fails) at (u .all);
+      roles =
+          put-skip (λ x. x) number (rolesAt (t .header)) (false, false) (λ x. T (declared t x)) (u .roles)
+          (λ y d e. absurd (let z : T (declared t x) = subst (λ i. T (declared t i)) e d in (rw fails at z)));
+    }
+
+    pub declarations : (at : ℕ) (a : Reading) → Declaring lent 0 a → Reaches text (map (signalRow t names) (signals t)) at a (Declaring lent 32)
+    unfolding signals
+    declarations at a = reaches-those text (signalRow t names) (declared t) (Declaring lent) 32 one skip 32 0 at a refl

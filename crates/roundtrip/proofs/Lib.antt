@@ -1,6 +1,6 @@
 pub mod Names
 pub mod Lines
-pub mod Left
+pub mod Put
 pub mod Rows
 pub mod Declarations
 pub mod Steps

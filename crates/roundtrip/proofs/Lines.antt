@@ -1,14 +1,15 @@
 -- What is printed line by line is read line by line.
 use mathlib.Core.Path.{_≡_, refl, ap, _∙_}
-use mathlib.Core.Bool.{Bool, true, false, _&&_}
+use mathlib.Core.Bool.{Bool, true, false, _&&_, cond}
 use mathlib.Core.List.{List, [], _∷_, _++_, map}
-use Prim.Native.Nat.{ℕ, suc, _+_, _≤_}
+use Prim.Native.Nat.{ℕ, zero, suc, _+_, _≤_, _<_}
+use native.Mathlib.Omega.{arith}
 use lib.Dec.{leb}
 use lib.ListN.{length}
 use Rattle.text.specs.Fields.{split, all, nameByte, nameOk, digitByte}
 use Rattle.text.specs.Lines.{parse, byKind}
 use Rattle.text.specs.Reading.{Reading, next, entered, finished, onward, readLines}
-use Rattle.text.specs.Writing.{decimal, tabbed, printed}
+use Rattle.text.specs.Writing.{decimal, tabbed, printed, those}
 use Rattle.text.proofs.Split.{Free, free-cons, free-append, free-all, split-last, split-join, split-some}
 use Rattle.text.proofs.Decimal.{decimal-digits}
 
@@ -77,16 +78,24 @@ module _ (text : ℕ) where
   pub reaches-map : {ls : List (List (List ℕ))} {at : ℕ} {a : Reading} {P Q : Reading → Type 0} → ((b : Reading) → P b → Q b) → Reaches ls at a P → Reaches ls at a Q
   reaches-map f u = record { end = u .end; runs = u .runs; holds = f (u .end) (u .holds) }
 
-  -- A line for each element of a list: an invariant of the elements that are left leads to the end.
-  module _ (row : ℕ → List (List ℕ)) (Left : List ℕ → Reading → Type 0)
-      (one : (x : ℕ) (xs : List ℕ) (a : Reading) → Left (x ∷ xs) a → Plain (row x) × ((at : ℕ) → (m : Reading) × (entered text at a (byKind (a .place) (row x)) ≡ next m) × Left xs m)) where
-    pub reaches-all : (xs : List ℕ) (at : ℕ) (a : Reading) → Left xs a → Reaches (map row xs) at a (Left [])
-    reaches-all [] at a w = record { end = a; runs = done; holds = w }
-    reaches-all (x ∷ xs) at a w =
-        let (p, f) = one x xs a w in
-        let (m, e, v) = f at in
-        let u = reaches-all xs (at + length (tabbed (row x)) + 1) m v in
-        record { end = u .end; runs = goes p e (u .runs); holds = u .holds }
+  -- A line for each number that passes the test: an invariant of the numbers that had their turn leads to the end.
+  module _ (row : ℕ → List (List ℕ)) (f : ℕ → Bool) (Before : ℕ → Reading → Type 0) (end : ℕ)
+      (one : (x : ℕ) → x < end → f x ≡ true → (a : Reading) → Before x a
+      → Plain (row x) × ((at : ℕ) → (m : Reading) × (entered text at a (byKind (a .place) (row x)) ≡ next m) × Before (suc x) m))
+      (skip : (x : ℕ) → x < end → f x ≡ false → (a : Reading) → Before x a → Before (suc x) a) where
+    pub reaches-those : (n s at : ℕ) (a : Reading) → s + n ≡ end → Before s a → Reaches (map row (those f s n)) at a (Before end)
+    unfolding those
+    reaches-those zero s at a e w = let q : s ≡ end = omega arith in record { end = a; runs = done; holds = rw q at w }
+    reaches-those (suc n) s at a e w = go (f s) refl (λ at a. reaches-those n (suc s) at a (omega arith))
+      where
+        go : (b : Bool) → f s ≡ b → ((at : ℕ) (a : Reading) → Before (suc s) a → Reaches (map row (those f (suc s) n)) at a (Before end))
+            → Reaches (map row (cond b (s ∷ those f (suc s) n) (those f (suc s) n))) at a (Before end)
+        go true q rest =
+            let (p, enter) = one s (omega arith) q a w in
+            let (m, r, v) = enter at in
+            let u = rest (at + length (tabbed (row s)) + 1) m v in
+            record { end = u .end; runs = goes p r (u .runs); holds = u .holds }
+        go false q rest = rest at a (skip s (omega arith) q a w)
 
   line-first : (k at : ℕ) (a : Reading) (l s : List ℕ)
       → readLines text k at a (l ∷ split 10 s) ≡ onward text k (entered text at a (parse (a .place) l)) (λ x. readLines text (suc k) (at + length l + 1) x (split 10 s))

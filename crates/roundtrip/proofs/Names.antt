@@ -2,16 +2,17 @@
 use mathlib.Core.Path.{_≡_, refl, sym, ap, _∙_}
 use mathlib.Core.Bool.{Bool, true, false, cond}
 use mathlib.Core.List.{List, [], _∷_, _++_, map, append-nil, append-assoc, map-append}
+use mathlib.Core.Logic.{inl, inr}
 use Prim.Native.Nat.{ℕ, suc, _≤_, _<_}
 use native.Mathlib.Omega.{arith}
-use native.Mathlib.Decide.{decLt, ℕ-discrete}
+use native.Mathlib.Decide.{decLt}
 use lib.Dec.{ltb}
 use lib.ListN.{length, getD, length-append, length-map}
 use borrow.Author.Tests.{eq-eqb, ne-eqb, lt-ltb, le-ltb}
 use Rattle.text.specs.Fields.{same}
 use Rattle.text.specs.Reading.{Signal, indexOf, known}
 use Rattle.text.proofs.Names.{same-self, same-eq, same-not, index-le, index-append, index-put}
-use Rattle.text.proofs.Occurrences.{occurrences, occurrences-nil, occurrences-here, occurrences-other, occurrences-more}
+use Rattle.text.proofs.Ascending.{In, Ascending, in-above}
 use Rattle.roundtrip.specs.RoundTrip.{rank, place, with, different}
 
 -- ---- the place of a name
@@ -107,56 +108,42 @@ unfolding different
 number-first n l ns = begins-place (different-begins (with l n) ns) n (with-within n l) .0 ∙ with-place n l
 
 -- Each of the names has one.
-pub number-within : (nm : ℕ → List ℕ) (a : ℕ) (ds : List ℕ) (l : List (List ℕ)) → 0 < occurrences a ds
-    → place (nm a) (different l (map nm ds)) < length (different l (map nm ds))
+pub number-within : (nm : ℕ → List ℕ) (a : ℕ) (ds : List ℕ) (l : List (List ℕ)) → In a ds → place (nm a) (different l (map nm ds)) < length (different l (map nm ds))
 unfolding different
-number-within nm a [] l h = absurd (omega (arith, occurrences-nil a))
-number-within nm a (d ∷ ds) l h = elim (ℕ-discrete d a) [
-  | yes e ↦ rw (← e) (begins-place (different-begins (with l (nm d)) (map nm ds)) (nm d) (with-within (nm d) l) .1)
-  | no n ↦ number-within nm a ds (with l (nm d)) (omega (arith, occurrences-other a d ds n))
-]
+number-within nm a [] l i = absurd i
+number-within nm a (d ∷ ds) l (inl e) = rw (← e) (begins-place (different-begins (with l (nm d)) (map nm ds)) (nm d) (with-within (nm d) l) .1)
+number-within nm a (d ∷ ds) l (inr i) = number-within nm a ds (with l (nm d)) i
 
 -- ---- distinct names: all are new, and the number of a name is its signal's rank
 
 module _ (nm : ℕ → List ℕ) where
-  -- The signals of a list stand there once, and no two have the same name.
-  pub record Distinct (ds : List ℕ) : Type 0 where
-    pub once : (a : ℕ) → occurrences a ds ≤ 1
-    pub apart : (a b : ℕ) → 0 < occurrences a ds → 0 < occurrences b ds → nm a ≡ nm b → a ≡ b
+  -- No two signals of a list have the same name.
+  abbrev pub Distinct : List ℕ → Type 0
+  Distinct ds = (a b : ℕ) → In a ds → In b ds → nm a ≡ nm b → a ≡ b
 
-  distinct-tail : (d : ℕ) (ds : List ℕ) → Distinct (d ∷ ds) → Distinct ds
-  distinct-tail d ds w = record {
-    once = λ a. omega (arith, w .once a, occurrences-more a d ds);
-    apart = λ a b h k. w .apart a b (omega (arith, occurrences-more a d ds)) (omega (arith, occurrences-more b d ds));
-  }
+  distinct-other : (s d a : ℕ) (ds : List ℕ) → Ascending s (d ∷ ds) → Distinct (d ∷ ds) → In a ds → ¬ (nm d ≡ nm a)
+  distinct-other s d a ds (h, u) w i e = omega (arith, w d a (inl refl) (inr i) e, in-above a (suc d) ds u i)
 
-  distinct-other : (d a : ℕ) (ds : List ℕ) → Distinct (d ∷ ds) → 0 < occurrences a ds → ¬ (nm d ≡ nm a)
-  distinct-other d a ds w h e =
-      let q : d ≡ a = w .apart d a (omega (arith, occurrences-here d ds)) (omega (arith, occurrences-more a d ds)) e in
-      omega (arith, w .once d, occurrences-here d ds, ap (λ x. occurrences x ds) q)
-
-  all-new : (ds : List ℕ) (l : List (List ℕ)) → Distinct ds → ((a : ℕ) → 0 < occurrences a ds → length l ≤ place (nm a) l)
+  all-new : (s : ℕ) (ds : List ℕ) (l : List (List ℕ)) → Ascending s ds → Distinct ds → ((a : ℕ) → In a ds → length l ≤ place (nm a) l)
       → different l (map nm ds) ≡ l ++ map nm ds
   unfolding different
-  all-new [] l w n = sym (append-nil l)
-  all-new (d ∷ ds) l w n =
-      ap (λ k. different k (map nm ds)) (with-new (nm d) l (n d (omega (arith, occurrences-here d ds))))
-      ∙ all-new ds (l ++ nm d ∷ []) (distinct-tail d ds w)
-      (λ a h. place-other (nm a) (nm d) l (distinct-other d a ds w h) (n a (omega (arith, occurrences-more a d ds))))
+  all-new s [] l u w n = sym (append-nil l)
+  all-new s (d ∷ ds) l u w n =
+      ap (λ k. different k (map nm ds)) (with-new (nm d) l (n d (inl refl)))
+      ∙ all-new (suc d) ds (l ++ nm d ∷ []) (u .1) (λ a b h k. w a b (inr h) (inr k))
+      (λ a i. place-other (nm a) (nm d) l (distinct-other s d a ds u w i) (n a (inr i)))
       ∙ append-assoc l (nm d ∷ []) (map nm ds)
 
-  pub different-distinct : (ds : List ℕ) → Distinct ds → different [] (map nm ds) ≡ map nm ds
-  different-distinct ds w = all-new ds [] w (λ a h. omega arith)
+  pub different-distinct : (s : ℕ) (ds : List ℕ) → Ascending s ds → Distinct ds → different [] (map nm ds) ≡ map nm ds
+  different-distinct s ds u w = all-new s ds [] u w (λ a i. omega arith)
 
-  pub rank-place : (a : ℕ) (ds : List ℕ) → Distinct ds → 0 < occurrences a ds → place (nm a) (map nm ds) ≡ rank a ds
+  pub rank-place : (s a : ℕ) (ds : List ℕ) → Ascending s ds → Distinct ds → In a ds → place (nm a) (map nm ds) ≡ rank a ds
   unfolding place rank
-  rank-place a [] w h = refl
-  rank-place a (d ∷ ds) w h = elim (ℕ-discrete d a) [
-    | yes e ↦ rw (e, same-self (nm a), eq-eqb a a refl)
-    | no n ↦
-        let late : 0 < occurrences a ds = omega (arith, occurrences-other a d ds n) in
-        rw (same-not (nm d) (nm a) (distinct-other d a ds w late), ne-eqb d a n) (ap suc (rank-place a ds (distinct-tail d ds w) late))
-  ]
+  rank-place s a [] u w i = absurd i
+  rank-place s a (d ∷ ds) u w (inl e) = rw (e, same-self (nm a), eq-eqb a a refl)
+  rank-place s a (d ∷ ds) u w (inr i) =
+      rw (same-not (nm d) (nm a) (distinct-other s d a ds u w i), ne-eqb d a (λ e. omega (arith, in-above a (suc d) ds (u .1) i)))
+      (ap suc (rank-place (suc d) a ds (u .1) (λ a b h k. w a b (inr h) (inr k)) i))
 
 -- ---- signals by their names
 

@@ -15,8 +15,8 @@ use Rattle.theory.proofs.Tests.{or-left, or-right}
 use Rattle.text.specs.Reading.{Reading, finished, readAlone, both, afterFirst, afterSecond, readBoth, tableRead}
 use Rattle.text.specs.Writing.{signals, nameOf, wholeText, writerChecks, textLength, writerBytes}
 use Rattle.text.specs.Lookup.{ample, nobody, declares, lookup, lookupNumber, lookupAlone, lookupNumberAlone}
-use Rattle.text.proofs.Occurrences.{those-few}
-use Rattle.text.proofs.Written.{written-text}
+use Rattle.text.proofs.Ascending.{those-few}
+use Rattle.text.proofs.Written.{signals-ascending, written-text}
 use Rattle.text.proofs.Entries.{is-true}
 use Rattle.text.proofs.Accepted.{Sound, accepted, accepted-valid}
 use Rattle.roundtrip.specs.RoundTrip.{rank, rankOf, RoundTrip, namesOf, place, different, allNames, JointTrip}
@@ -34,7 +34,7 @@ module _ (t : Table) (name : List ℕ) (names : List (List ℕ)) (w : Writable t
   signals-few = omega (arith, length-map (signals t) (nameOf names), those-few (declared t) 0 32)
 
   all-new : different [] (namesOf t names) ≡ namesOf t names
-  all-new = different-distinct (nameOf names) (signals t) (signals-distinct t w)
+  all-new = different-distinct (nameOf names) 0 (signals t) (signals-ascending t) (signals-distinct t w)
 
   alone-numbered : Numbered t names (namesOf t names)
   alone-numbered = record {
@@ -43,7 +43,7 @@ module _ (t : Table) (name : List ℕ) (names : List (List ℕ)) (w : Writable t
   }
 
   rank-number : (a : ℕ) → T (declared t a) → rank a (signals t) ≡ numberIn names (namesOf t names) a
-  rank-number a d = sym (rank-place (nameOf names) a (signals t) (signals-distinct t w) (declared-in t a d))
+  rank-number a d = sym (rank-place (nameOf names) 0 a (signals t) (signals-ascending t) (signals-distinct t w) (declared-in t a d))
 
   read-alone : (cells : ℕ) → t .header .states * 32 ≤ cells
       → (st : Reading) × (readAlone cells (wholeText t name names) ≡ finished st) × Copy t names (namesOf t names) st

@@ -1,16 +1,13 @@
 -- What is written is read back, after any signals that are numbered already.
 use mathlib.Core.Path.{_≡_, refl, sym, ap, subst, _∙_}
-use mathlib.Core.Bool.{Bool, true, false, _||_}
+use mathlib.Core.Bool.{false, _||_}
 use mathlib.Core.List.{List, [], _∷_, _++_, map}
-use mathlib.Core.Logic.{inl, inr}
-use Prim.Native.Nat.{ℕ, _+_, _*_, _≤_, _<_}
+use Prim.Native.Nat.{ℕ, _+_, _*_, _≤_}
 use native.Mathlib.Omega.{arith}
-use native.Mathlib.Decide.{decLt}
 use lib.Arith.{digits-lt}
 use lib.Dec.{T}
 use lib.ListN.{length, getD, replicate, length-replicate}
-use borrow.Author.Tests.{lt-ltb, le-ltb}
-use Rattle.theory.specs.Bounded.{digit}
+use borrow.Author.Tests.{le-ltb}
 use Rattle.theory.specs.Table.{Table, table as tableOf}
 use Rattle.theory.specs.Checks.{declared}
 use Rattle.theory.proofs.Table.{table-narrow}
@@ -18,49 +15,29 @@ use Rattle.text.specs.declared.Place.the-variants.{Head, Declarations}
 use Rattle.text.specs.Fields.{split}
 use Rattle.text.specs.Lines.{byKind}
 use Rattle.text.specs.Reading.{Signal, Reading, next, entered, finished, isNil, readLines, fresh, readFrom}
-use Rattle.text.specs.Writing.{signals, nameOf, tabbed, printed, tableRow, signalRow, stepRows, wholeText, enabledAt, textLength}
-use Rattle.text.proofs.Occurrences.{occurrences, digit-few, occurrences-nil, those-once}
-use Rattle.text.proofs.Written.{enabled-once}
+use Rattle.text.specs.Writing.{signals, nameOf, tabbed, printed, tableRow, signalRow, stepRows, wholeText, textLength, those}
+use Rattle.text.proofs.Ascending.{In, in-those, those-in}
 use Rattle.text.proofs.Roles.{rolesAt, member-none}
 use Rattle.text.proofs.Entries.{started-next}
 use Rattle.text.proofs.Accepted.{getD-blank}
 use Rattle.roundtrip.specs.RoundTrip.{different, namesOf}
 use Rattle.roundtrip.proofs.Names.{number-within, Distinct, namesIn}
 use Rattle.roundtrip.proofs.Lines.{goes, Reaches, reaches-then, reaches-map, runs-read}
-use Rattle.roundtrip.proofs.Left.{left-start, left-none}
+use Rattle.roundtrip.proofs.Put.{put-nothing, put-value}
 use Rattle.roundtrip.proofs.Rows.{Writable, table-plain, table-entry}
 use Rattle.roundtrip.proofs.Declarations.{numberIn, Numbered, Declaring, declarations}
-use Rattle.roundtrip.proofs.Steps.{Move, cellIn, cellOf, Good, left, left-first, steps}
+use Rattle.roundtrip.proofs.Steps.{Move, cellIn, turn, cellOf, Good, steps}
 
 -- ---- the declared signals
 
 module _ (t : Table) where
-  pub signals-once : (a : ℕ) → occurrences a (signals t) ≡ digit (declared t a)
+  pub declared-in : (a : ℕ) → T (declared t a) → In a (signals t)
   unfolding signals
-  signals-once a = those-once (declared t) a 32 ∙ elim (decLt a 32) [
-    | yes l ↦ rw (lt-ltb a 32 l)
-    | no g ↦ rw (le-ltb a 32 (omega arith))
-  ]
-
-  pub declared-in : (a : ℕ) → T (declared t a) → 0 < occurrences a (signals t)
-  declared-in a d = rw (signals-once a) (go (declared t a) d)
-    where
-      go : (b : Bool) → T b → 0 < digit b
-      go true d = omega arith
-      go false d = absurd d
-
-  pub in-declared : (a : ℕ) → 0 < occurrences a (signals t) → T (declared t a)
-  in-declared a h = go (declared t a) (rw (signals-once a) at h)
-    where
-      go : (b : Bool) → 0 < digit b → T b
-      go true h = tt
-      go false h = absurd (omega arith)
+  declared-in a d = those-in (declared t) a 0 32 d (omega arith) (table-narrow t a d)
 
   pub signals-distinct : {name : List ℕ} {names : List (List ℕ)} → Writable t name names → Distinct (nameOf names) (signals t)
-  signals-distinct w = record {
-    once = λ a. rw (signals-once a) (digit-few (declared t a));
-    apart = λ a b h k. w .apart a b (in-declared a h) (in-declared b k);
-  }
+  unfolding signals
+  signals-distinct w a b h k = w .apart a b (in-those (declared t) a 0 32 h) (in-those (declared t) b 0 32 k)
 
 -- ---- a reading that is the table t again, its signals numbered by the places of their names in `final`
 
@@ -97,40 +74,23 @@ module _ (t : Table) (name : List ℕ) (names : List (List ℕ)) (w : Writable t
       ∙ started-next (fresh l room) (t .header .states) (t .header .initial) (w .valid .some-state) (w .valid .few-states) (w .valid .initial)
       (omega (arith, length-replicate {A = ℕ} room 65535))
 
-  declare : Declaring t name names final w numbered (replicate room 65535) (signals t) begun
-  unfolding begun final
+  declare : Declaring t name names final w numbered (replicate room 65535) 0 begun
+  unfolding begun final signals
   declare = record {
     stands = refl;
     states = refl;
     initial = refl;
     cells = refl;
     all = refl;
-    roles =
-        left-start (numberIn names final) (rolesAt (t .header)) (false, false) (λ x. T (declared t x)) (λ i. rw (member-none i))
-        (λ x d z. absurd (omega (arith, declared-in t x d)));
-    members = in-declared t;
-    once = signals-distinct t w .once;
+    roles = put-nothing (λ x. x) (numberIn names final) (rolesAt (t .header)) (false, false) (λ x. T (declared t x)) (λ i. rw (member-none i));
   }
 
-  -- A step that is not written is none.
-  no-step : (k : Move) → Good t k → left t 0 (enabledAt t 0) k ≡ 0 → cellOf t k ≡ 65535
-  no-step k (h, d) z = elim (w .valid .sound (k .0 * 32 + k .1) (digits-lt h low)) [
-    | inl e ↦ e
-    | inr l ↦ absurd (omega (arith, some l))
-  ]
-    where
-      low : k .1 < 32
-      low = table-narrow t (k .1) d
-
-      some : cellOf t k < t .header .states → _≡_ {A = ℕ} 0 1
-      some l = sym z ∙ left-first t k ∙ enabled-once t (k .0) (k .1) ∙ rw (lt-ltb (k .1) 32 low, lt-ltb (cellOf t k) (t .header .states) l)
-
-  steps-copy : (a : Reading) → Declaring t name names final w numbered (replicate room 65535) [] a → (at : ℕ)
+  steps-copy : (a : Reading) → Declaring t name names final w numbered (replicate room 65535) 32 a → (at : ℕ)
       → Reaches text (stepRows t names 0 (t .header .states)) at a (Copy t names final)
-  unfolding different
+  unfolding different those
   steps-copy a u at =
       let roles : (x : ℕ) → T (declared t x) → rolesAt (a .header) (numberIn names final x) ≡ rolesAt (t .header) x =
-      λ x d. left-none (numberIn names final) (rolesAt (t .header)) (false, false) (λ x. T (declared t x)) (u .roles) x d (occurrences-nil x) in
+      λ x d. put-value (λ x. x) (numberIn names final) (rolesAt (t .header)) (false, false) (λ x. T (declared t x)) (u .roles) x d (table-narrow t x d) in
       let known : (x : ℕ) → T (declared t x) → T (declared (tableOf (a .header) []) (numberIn names final x)) =
       λ x d. subst (λ p. T (p .0 || p .1)) (sym (roles x d)) d in
       reaches-map text (λ b v. record {
@@ -139,7 +99,7 @@ module _ (t : Table) (name : List ℕ) (names : List (List ℕ)) (w : Writable t
         listed = ap namesIn (v .signals) ∙ u .all;
         roles = λ x d. ap (λ h. rolesAt h (numberIn names final x)) (v .header) ∙ roles x d;
         others = λ i m. ap (λ h. rolesAt h i) (v .header) ∙ u .roles .others i m;
-        cells = λ k g. left-none (cellIn names final) (cellOf t) 65535 (Good t) (v .cells) k g (rw (lt-ltb (k .0) (t .header .states) (g .0)));
+        cells = λ k g. put-value turn (cellIn names final) (cellOf t) 65535 (Good t) (v .cells) k g (digits-lt (g .0) (table-narrow t (k .1) (g .1)));
         blank = v .cells .others;
       })
       (steps t name names final w numbered text (a .header) (a .signals) room fits (u .states) known (u .all) (t .header .states) 0 at a (omega arith) (record {
@@ -147,12 +107,12 @@ module _ (t : Table) (name : List ℕ) (names : List (List ℕ)) (w : Writable t
         header = refl;
         signals = refl;
         size = rw (u .cells) (length-replicate {A = ℕ} room 65535);
-        cells = left-start (cellIn names final) (cellOf t) 65535 (Good t) (λ i. rw (u .cells) (getD-blank room i)) no-step;
+        cells = put-nothing turn (cellIn names final) (cellOf t) 65535 (Good t) (λ i. rw (u .cells) (getD-blank room i));
       }))
 
   copied : Reaches text (tableRow t name ∷ map (signalRow t names) (signals t) ++ stepRows t names 0 (t .header .states)) 0 (fresh l room) (Copy t names final)
   copied =
-      let u = reaches-then text (declarations t name names final w numbered text (replicate room 65535) (signals t) (0 + length (tabbed (tableRow t name)) + 1) begun declare) steps-copy in
+      let u = reaches-then text (declarations t name names final w numbered text (replicate room 65535) (0 + length (tabbed (tableRow t name)) + 1) begun declare) steps-copy in
       record { end = u .end; runs = goes (table-plain t name names w) enter (u .runs); holds = u .holds }
 
   text-some : isNil (wholeText t name names) ≡ false

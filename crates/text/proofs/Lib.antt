@@ -1,6 +1,6 @@
 pub mod Split
 pub mod Decimal
-pub mod Occurrences
+pub mod Ascending
 pub mod Written
 pub mod Names
 pub mod Lines

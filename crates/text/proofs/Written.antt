@@ -1,27 +1,25 @@
--- What the text of a table says of its order (02, S-3): signals and the steps of a state stand by ascending number, each once; and equal tables,
+-- What the text of a table says of its order (02, S-3): signals and the steps of a state stand by ascending number; and equal tables,
 -- names and numbering have equal texts.
 use mathlib.Core.Path.{_≡_, refl, sym, _∙_}
 use mathlib.Core.Bool.{Bool, true, false, not, _&&_, cond}
 use mathlib.Core.List.{List, [], _∷_, _++_, map, append-assoc}
-use mathlib.Core.Option.{Option, none}
+use mathlib.Core.Logic.{_↔_}
 use Prim.Native.Nat.{ℕ, zero, suc, _+_, _≤_, _<_}
 use native.Mathlib.Omega.{arith}
-use lib.Dec.{T, ltb}
+use lib.Dec.{T, ltb, ltb→lt}
 use lib.ListN.{length, take, drop}
 use lib.Seq.{take-at}
 use Rattle.theory.specs.declared.Checked.{Checked}
 use Rattle.theory.specs.declared.Checked.the-variants.{Accepted, Refused}
-use Rattle.theory.specs.Bounded.{digit}
-use Rattle.theory.specs.Closure.{isSome}
 use Rattle.theory.specs.Table.{Table, automaton, cellAt, decode}
 use Rattle.theory.specs.Checks.{Check, unplaced, first, declared, tableChecks}
 use Rattle.theory.specs.Valid.{Valid}
 use Rattle.theory.proofs.Bounded.{any-cong}
 use Rattle.theory.proofs.Checks.{orElse, first-append, checks-valid}
-use Rattle.theory.proofs.Options.{is-some}
+use Rattle.theory.proofs.Options.{is-some, when-of}
 use Rattle.text.specs.Fields.{same, nameOk}
 use Rattle.text.specs.Writing.{tabbed, printed, those, signals, nameOf, signalRow, stepRow, stepRows, wholeText, hasStep, enabledAt, misnamed, ambiguous, textLength, tooLong, writerChecks, writerBytes, SameWriting}
-use Rattle.text.proofs.Occurrences.{occurrences, those-once}
+use Rattle.text.proofs.Ascending.{In, Ascending, in-those, those-ascending, those-in}
 
 -- ---- lines
 
@@ -32,24 +30,6 @@ printed-append (l ∷ ls) ms = rw (printed-append ls ms) (sym (append-assoc (tab
 
 -- ---- the order
 
--- Numbers in ascending order, none twice and none below s.
-unfoldable pub Ascending : ℕ → List ℕ → Type 0
-Ascending s [] = Unit {0}
-Ascending s (x ∷ l) = (s ≤ x) × Ascending (suc x) l
-
-ascending-from : (s : ℕ) (l : List ℕ) → Ascending (suc s) l → Ascending s l
-unfolding Ascending
-ascending-from s [] a = a
-ascending-from s (x ∷ l) (h, a) = (omega arith, a)
-
-pub those-ascending : (f : ℕ → Bool) (s n : ℕ) → Ascending s (those f s n)
-unfolding those Ascending
-those-ascending f s zero = tt
-those-ascending f s (suc n) =
-    let l = those f (suc s) n in
-    let rest : Ascending (suc s) l = those-ascending f (suc s) n in
-    elim (f s) as (λ b. Ascending s (cond b (s ∷ l) l)) [ true ↦ (omega arith, rest) | false ↦ ascending-from s l rest ]
-
 module _ (t : Table) where
   pub signals-ascending : Ascending 0 (signals t)
   unfolding signals
@@ -59,14 +39,16 @@ module _ (t : Table) where
   unfolding enabledAt
   enabled-ascending s = those-ascending (hasStep t s) 0 32
 
-  -- Each step of a state stands there once, and no other.
-  pub enabled-once : (s a : ℕ) → occurrences a (enabledAt t s) ≡ digit (hasStep t s a)
+  -- A signal stands there exactly if the state has a step by it.
+  pub enabled-are : (s a : ℕ) → In a (enabledAt t s) ↔ T (hasStep t s a)
   unfolding enabledAt
-  enabled-once s a = those-once (hasStep t s) a 32 ∙ go (ltb a 32) (decode (t .header .states) (cellAt t s a))
+  enabled-are s a = (in-those (hasStep t s) a 0 32, λ h. those-in (hasStep t s) a 0 32 h (omega arith) (narrow h))
     where
-      go : (b : Bool) (o : Option ℕ) → digit (b && isSome (cond b o none)) ≡ digit (isSome (cond b o none))
-      go true o = refl
-      go false o = refl
+      narrow : T (hasStep t s a) → a < 32
+      narrow h =
+          let (u, e) = is-some (automaton t .next s a) h in
+          let (l, _) = when-of (ltb a 32) (decode (t .header .states) (cellAt t s a)) e in
+          ltb→lt a 32 l
 
 -- ---- equal texts
 
