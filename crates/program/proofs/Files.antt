@@ -22,7 +22,7 @@ Line file bytes end bytes′ = (end ≡ after (length bytes) 0 (refusalText file
 
 module _ (first second : File) (m p cm cp cells flags out : List ℕ) (e : ℕ) (out′ : List ℕ) where
   abbrev Runs : Buffers → Type 0
-  Runs left = Ends out e out′ (programText first second m p cm cp cells flags) left (programBuffers first second m p cm cp cells flags)
+  Runs left = Ends out e out′ (programText first second m p (length cm) (length cp) (length cells) (length flags)) left (programBuffers first second m p cm cp cells flags)
 
   pub first-unread : first ≡ Unreadable → Line 1 out e out′ → Runs (cm, cp, cells, flags)
   unfolding programText programBuffers
@@ -33,6 +33,6 @@ module _ (first second : File) (m p cm cp cells flags out : List ℕ) (e : ℕ) 
   second-unread i a b (u, (v, h)) = (rw (a, b) u, (rw (a, b) v, (rw (a, b), omega arith)))
 
   pub both-read : (i k : ℕ) → first ≡ Bytes i → second ≡ Bytes k → (m′ p′ : List ℕ) → m′ ≡ take i m → p′ ≡ take k p → (left : Buffers)
-      → Ends out e out′ (reportText m′ p′ cm cp cells flags) left (reportBuffers m′ p′ cm cp cells flags) → Runs left
+      → Ends out e out′ (reportText m′ p′ (length cm) (length cp) (length cells) (length flags)) left (reportBuffers m′ p′ cm cp cells flags) → Runs left
   unfolding programText programBuffers
   both-read i k a b m′ p′ em ep left w = rw (a, b, ← em, ← ep) w

@@ -1,5 +1,5 @@
--- What the program prints for two files, and what it leaves in the lent buffers (01, "The program and one full run"). m and p are the bytes
--- read of module and plan, cm and cp the cells of the two, cells and flags the buffers for the result.
+-- What the program prints for two files, and what it leaves in the lent buffers (01, "The program and one full run"). m and p are the buffers that
+-- module and plan were read into, cm and cp those for the cells of the two, cells and flags those for the result.
 use mathlib.Core.List.{List}
 use Prim.Native.Nat.{ℕ}
 use lib.ListN.{take}
@@ -14,11 +14,12 @@ byFiles Unreadable second unreadable read = unreadable 1
 byFiles (Bytes i) Unreadable unreadable read = unreadable 2
 byFiles (Bytes i) (Bytes j) unreadable read = read i j
 
-module _ (first second : File) (m p cm cp cells flags : List ℕ) where
-  -- All that is printed: one line with 24, before any text check; or the report.
-  unfoldable pub programText : List ℕ
-  programText = byFiles first second (λ file. refusalText file 24 0) (λ i j. reportText (take i m) (take j p) cm cp cells flags)
+-- All that is printed, where so many cells and flags are lent: one line with 24, before any text check; or the report.
+unfoldable pub programText : File → File → List ℕ → List ℕ → (cm cp cells flags : ℕ) → List ℕ
+programText first second m p cm cp cells flags =
+    byFiles first second (λ file. refusalText file 24 0) (λ i j. reportText (take i m) (take j p) cm cp cells flags)
 
-  -- What is left in the four buffers: with 24 nothing is touched.
-  unfoldable pub programBuffers : Buffers
-  programBuffers = byFiles first second (λ file. (cm, cp, cells, flags)) (λ i j. reportBuffers (take i m) (take j p) cm cp cells flags)
+-- What is left in the four buffers: with 24 nothing is touched.
+unfoldable pub programBuffers : File → File → List ℕ → List ℕ → (cm cp cells flags : List ℕ) → Buffers
+programBuffers first second m p cm cp cells flags =
+    byFiles first second (λ file. (cm, cp, cells, flags)) (λ i j. reportBuffers (take i m) (take j p) cm cp cells flags)

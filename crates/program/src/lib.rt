@@ -18,8 +18,8 @@ pub fn program<'a>(
     flags: &mut [u8],
     out: &mut [u8],
 ) -> usize
-    ensures { λ r. ⌜ r ≡ after (length (now (out .entry))) 0 (programText first second (now (m .entry)) (now (p .entry)) (now (cm .entry)) (now (cp .entry)) (now (cells .entry)) (now (flags .entry))) ⌝ }
-    ensures { λ r. ⌜ now (out .exit) ≡ stored (now (out .entry)) 0 (programText first second (now (m .entry)) (now (p .entry)) (now (cm .entry)) (now (cp .entry)) (now (cells .entry)) (now (flags .entry))) ⌝ }
+    ensures { λ r. ⌜ r ≡ after (length (now (out .entry))) 0 (programText first second (now (m .entry)) (now (p .entry)) (length (now (cm .entry))) (length (now (cp .entry))) (length (now (cells .entry))) (length (now (flags .entry)))) ⌝ }
+    ensures { λ r. ⌜ now (out .exit) ≡ stored (now (out .entry)) 0 (programText first second (now (m .entry)) (now (p .entry)) (length (now (cm .entry))) (length (now (cp .entry))) (length (now (cells .entry))) (length (now (flags .entry)))) ⌝ }
     ensures { λ _. ⌜ (now (cm .exit), now (cp .exit), now (cells .exit), now (flags .exit)) ≡ programBuffers first second (now (m .entry)) (now (p .entry)) (now (cm .entry)) (now (cp .entry)) (now (cells .entry)) (now (flags .entry)) ⌝ }
     ensures { λ r. ⌜ r ≤ 65608 ⌝ }
 {

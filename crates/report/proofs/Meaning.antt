@@ -29,7 +29,7 @@ use Rattle.text.proofs.Decimal.{Digits, digits-of}
 use Rattle.emit.specs.Buffer.{stored}
 use Rattle.emit.proofs.Buffer.{stored-front}
 use Rattle.printout.specs.Lines.{refusalText, figures}
-use Rattle.report.specs.Report.{lentPairs, roomOf, reportChecks, resultText, Buffers, checkedOf, byReading, reportText, buffersRefused, buffersMade, reportBuffers}
+use Rattle.report.specs.Report.{lentPairs, roomOf, reportChecks, resultText, Buffers, checkedOf, byReading, reportText, reportBuffers}
 use Rattle.report.proofs.Whole.{lent-fits}
 
 -- What is printed of a number below 100,000 is its decimal: digits, five at most, no needless zero before them, and their value is the number.
@@ -213,64 +213,72 @@ six-no-line v false pairs kept rounds steps ends text file number line e =
     omega (arith, ap firstByte e, ap firstByte (append-nil (figures v pairs kept rounds steps ends)), six-first v pairs kept rounds steps ends [], line-first file number line)
 
 -- The tables that were read, where no check applies.
-pub record Passed (m p cm cp cells flags : List ℕ) (j : Joint) : Type 0 where
-  pub component : Reading
-  pub specification : Reading
-  pub read : j ≡ both component specification
-  pub accepted : checkedOf m p cm cp cells flags component specification ≡ Accepted
+record Passed (m p : List ℕ) (room : ℕ) (j : Joint) : Type 0 where
+  component : Reading
+  specification : Reading
+  read : j ≡ both component specification
+  accepted : checkedOf m p room component specification ≡ Accepted
 
-module _ (m p cm cp cells flags : List ℕ) where
-  abbrev checked : Reading → Reading → Checked
-  checked = checkedOf m p cm cp cells flags
+module _ (m p : List ℕ) (room : ℕ) where
+  abbrev printedOf : Joint → List ℕ
+  printedOf = byReading m p room refusalText (λ x y. resultText m p (tableRead x) (tableRead y))
 
-  abbrev textBy : Joint → List ℕ
-  textBy = byReading m p cm cp cells flags refusalText (λ x y. resultText m p (tableRead x) (tableRead y))
-
-  abbrev buffersBy : Joint → Buffers
-  buffersBy = byReading m p cm cp cells flags (λ file number line. buffersRefused m p cm cp cells flags) (buffersMade m p cm cp cells flags)
-
-  line-leaves : (j : Joint) (file number line : ℕ) → textBy j ≡ refusalText file number line
-      → buffersBy j ≡ buffersRefused m p cm cp cells flags
+  -- Where the line of a refusal is printed, all else is as after a refusal.
+  line-refused : {A : Type 0} (refused : A) (made : Reading → Reading → A) (j : Joint) (file number line : ℕ) → printedOf j ≡ refusalText file number line
+      → byReading m p room (λ file number line. refused) made j ≡ refused
   unfolding resultText
-  line-leaves (neither r) file number line e = refl
-  line-leaves (both x y) file number line e = go (checked x y) refl
+  line-refused refused made (neither r) file number line e = refl
+  line-refused refused made (both x y) file number line e = go (checkedOf m p room x y) refl
     where
-      go : (k : Checked) → checked x y ≡ k → buffersBy (both x y) ≡ buffersRefused m p cm cp cells flags
+      go : (k : Checked) → checkedOf m p room x y ≡ k → byReading m p room (λ file number line. refused) made (both x y) ≡ refused
       go Accepted q = absurd (six-no-line _ (synthesis (tableRead x) (tableRead y) .compatible) _ _ _ _ _ _ file number line (rw q at e))
       go (Refused r) q = rw q
 
-  no-line-passed : (j : Joint) → ((file number line : ℕ) → textBy j ≡ refusalText file number line → ⊥)
-      → Passed m p cm cp cells flags j
+  no-line-passed : (j : Joint) → ((file number line : ℕ) → printedOf j ≡ refusalText file number line → ⊥) → Passed m p room j
   no-line-passed (neither r) h = absurd (h (r .text) (r .number) (r .line) refl)
-  no-line-passed (both x y) h = go (checked x y) refl
+  no-line-passed (both x y) h = go (checkedOf m p room x y) refl
     where
-      go : (k : Checked) → checked x y ≡ k → Passed m p cm cp cells flags (both x y)
+      go : (k : Checked) → checkedOf m p room x y ≡ k → Passed m p room (both x y)
       go Accepted q = record { component = x; specification = y; read = refl; accepted = q }
       go (Refused r) q = absurd (h (r .table) (r .number) 0 (rw q))
+
+  passed-made : {A : Type 0} (refused : A) (made : Reading → Reading → A) (j : Joint) (w : Passed m p room j)
+      → byReading m p room (λ file number line. refused) made j ≡ made (w .component) (w .specification)
+  passed-made refused made j w = ap (byReading m p room (λ file number line. refused) made) (w .read) ∙ rw (w .accepted)
+
+module _ (m p cm cp cells flags : List ℕ) where
+  abbrev room : ℕ
+  room = roomOf (length cells) (length flags)
 
   abbrev j : Joint
   j = readBoth (length cm) m (length cp) p
 
+  abbrev text : List ℕ
+  text = reportText m p (length cm) (length cp) (length cells) (length flags)
+
   -- Demand 1 of the letter: "A refused call changes no lent buffer, except that a refused reading leaves every table it was to fill without
-  -- steps." Where the line of a refusal is printed, of the reading or after it:
-  pub refused-leaves : (file number line : ℕ) → reportText m p cm cp cells flags ≡ refusalText file number line
+  -- steps." A report that is the line of a refusal, of the reading or after it, leaves module and plan without steps, cells and flags as they were.
+  pub refused-leaves : (file number line : ℕ) → text ≡ refusalText file number line
       → reportBuffers m p cm cp cells flags ≡ (replicate (length cm) 65535, replicate (length cp) 65535, cells, flags)
   unfolding reportText reportBuffers
-  refused-leaves file number line e = line-leaves j file number line e
+  refused-leaves file number line e = line-refused m p room _ _ j file number line e
 
-  -- The tables read and the maker's result; beyond the result its buffers are as they were.
-  abbrev Done : Reading → Reading → Type 0
-  Done x y =
-      let s = synthesis (tableRead x) (tableRead y) in
-      let n = controller (tableRead x) (tableRead y) .header .states in
-      reportBuffers m p cm cp cells flags ≡ (x .cells, y .cells, s .cells ++ drop (n * 32) cells, s .flags ++ drop n flags)
+  -- The cells of module and plan as read, and the maker's cells and flags; beyond these, cells and flags are as they were.
+  pub record Done : Type 0 where
+    pub component : Reading
+    pub specification : Reading
+    pub read : j ≡ both component specification
+    pub left : (let a = tableRead component in
+        let b = tableRead specification in
+        let n = controller a b .header .states in
+        reportBuffers m p cm cp cells flags
+        ≡ (component .cells, specification .cells, synthesis a b .cells ++ drop (n * 32) cells, synthesis a b .flags ++ drop n flags))
 
-  -- Where none is printed.
-  pub result-leaves : ((file number line : ℕ) → reportText m p cm cp cells flags ≡ refusalText file number line → ⊥)
-      → (x y : Reading) × (j ≡ both x y) × Done x y
+  -- A report that is no such line.
+  pub result-leaves : ((file number line : ℕ) → text ≡ refusalText file number line → ⊥) → Done
   unfolding reportText reportBuffers
   result-leaves h =
-      let w = no-line-passed j h in
+      let w = no-line-passed m p room j h in
       let x = w .component in
       let y = w .specification in
       let a = tableRead x in
@@ -283,5 +291,4 @@ module _ (m p cm cp cells flags : List ℕ) where
       stored-front cells (synthesis a b .cells) (omega arith) ∙ rw n in
       let f : stored flags 0 (synthesis a b .flags) ≡ synthesis a b .flags ++ drop (controller a b .header .states) flags =
       stored-front flags (synthesis a b .flags) (omega arith) ∙ rw k in
-      let made : buffersBy j ≡ buffersMade m p cm cp cells flags x y = ap buffersBy (w .read) ∙ rw (w .accepted) in
-      (x, y, w .read, made ∙ (λ i. (x .cells, y .cells, c i, f i)))
+      record { component = x; specification = y; read = w .read; left = passed-made m p room _ _ j w ∙ (λ i. (x .cells, y .cells, c i, f i)) }

@@ -50,10 +50,10 @@ module _ (m p : List ℕ) where
       go Accepted e false h = omega (arith, short false)
       go (Refused r) e v h = omega (arith, refusal-short (r .table) (r .number) 0)
 
-  pub report-short : (cm cp cells flags : List ℕ) → length (reportText m p cm cp cells flags) ≤ 65608
+  pub report-short : (cm cp cells flags : ℕ) → length (reportText m p cm cp cells flags) ≤ 65608
   unfolding reportText
-  report-short cm cp cells flags = go (readBoth (length cm) m (length cp) p)
+  report-short cm cp cells flags = go (readBoth cm m cp p)
     where
-      go : (j : Joint) → length (byReading m p cm cp cells flags refusalText (λ x y. resultText m p (tableRead x) (tableRead y)) j) ≤ 65608
-      go (both x y) = made-short (tableRead x) (tableRead y) (lentPairs (tableRead x) (tableRead y) (roomOf (length cells) (length flags)))
+      go : (j : Joint) → length (byReading m p (roomOf cells flags) refusalText (λ x y. resultText m p (tableRead x) (tableRead y)) j) ≤ 65608
+      go (both x y) = made-short (tableRead x) (tableRead y) (lentPairs (tableRead x) (tableRead y) (roomOf cells flags))
       go (neither r) = omega (arith, refusal-short (r .text) (r .number) (r .line))

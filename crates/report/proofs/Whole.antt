@@ -12,7 +12,7 @@ use borrow.Author.Tests.{le-leb, lt-leb}
 use Rattle.theory.specs.declared.Automaton.{Automaton}
 use Rattle.theory.specs.declared.Checked.{Checked}
 use Rattle.theory.specs.declared.Checked.the-variants.{Accepted, Refused}
-use Rattle.theory.specs.Table.{Table, table}
+use Rattle.theory.specs.Table.{Table, table, synthesis}
 use Rattle.theory.specs.Checks.{first, unlessRefused}
 use Rattle.text.specs.declared.TextRefusal.{TextRefusal}
 use Rattle.text.specs.Reading.{Reading, Joint, both, neither, readBoth, cellsFirst, cellsSecond, tableRead}
@@ -24,7 +24,7 @@ use Rattle.reader.specs.declared.Together.the-variants as together
 use Rattle.reader.specs.Replies.{togetherReply}
 use Rattle.printout.specs.Lines.{refusalText}
 use Rattle.printout.proofs.Short.{within}
-use Rattle.report.specs.Report.{lesserOf, roomOf, reportChecks, Buffers, checkedOf, buffersRefused, buffersMade, reportText, reportBuffers}
+use Rattle.report.specs.Report.{lesserOf, roomOf, reportChecks, checkedOf, reportText, Buffers, reportBuffers}
 use Rattle.report.specs.Parts.{isRefused, Makes, Holds, Fitting, Leaves, pairsFor}
 use Rattle.report.proofs.Short.{report-short}
 
@@ -123,14 +123,14 @@ joint-tables (neither s) a b e = absurd (let z : _≡_ {A = ℕ} 0 1 = cc in ome
 -- The contract of the call, with what is left in the four buffers.
 abbrev Reports : (m p cm cp cells flags bytes : List ℕ) (end : ℕ) (bytes′ : List ℕ) → Buffers → Type 0
 Reports m p cm cp cells flags bytes end bytes′ left =
-    (end ≡ after (length bytes) 0 (reportText m p cm cp cells flags))
-    × ((bytes′ ≡ stored bytes 0 (reportText m p cm cp cells flags)) × ((left ≡ reportBuffers m p cm cp cells flags) × (end ≤ 65608)))
+    (end ≡ after (length bytes) 0 (reportText m p (length cm) (length cp) (length cells) (length flags)))
+    × ((bytes′ ≡ stored bytes 0 (reportText m p (length cm) (length cp) (length cells) (length flags))) × ((left ≡ reportBuffers m p cm cp cells flags) × (end ≤ 65608)))
 
-reports : (m p cm cp cells flags bytes : List ℕ) (end : ℕ) (bytes′ : List ℕ) (left : Buffers) → Puts bytes 0 (reportText m p cm cp cells flags) end bytes′
+reports : (m p cm cp cells flags bytes : List ℕ) (end : ℕ) (bytes′ : List ℕ) (left : Buffers) → Puts bytes 0 (reportText m p (length cm) (length cp) (length cells) (length flags)) end bytes′
     → left ≡ reportBuffers m p cm cp cells flags → Reports m p cm cp cells flags bytes end bytes′ left
 reports m p cm cp cells flags bytes end bytes′ left (u, v) e =
-    let text = reportText m p cm cp cells flags in
-    (u, (v, (e, omega (arith, u, within (length bytes) 0 text, report-short m p cm cp cells flags))))
+    let text = reportText m p (length cm) (length cp) (length cells) (length flags) in
+    (u, (v, (e, omega (arith, u, within (length bytes) 0 text, report-short m p (length cm) (length cp) (length cells) (length flags)))))
 
 module _ (cm₀ cp₀ m p cm cp : List ℕ) (k : Together) (replied : k ≡ togetherReply (readBoth (length cm₀) m (length cp₀) p))
     (first-left : cm ≡ cellsFirst (length cm₀) (readBoth (length cm₀) m (length cp₀) p))
@@ -142,19 +142,13 @@ module _ (cm₀ cp₀ m p cm cp : List ℕ) (k : Together) (replied : k ≡ toge
     none : j ≡ neither r
     none = joint-refused j r (sym replied ∙ no)
 
-    first-cleared : cm ≡ replicate (length cm₀) 65535
-    first-cleared = first-left ∙ rw none
-
-    second-cleared : cp ≡ replicate (length cp₀) 65535
-    second-cleared = second-left ∙ rw none
-
-    text-refused : refusalText (r .text) (r .number) (r .line) ≡ reportText m p cm₀ cp₀ cells flags
+    text-refused : refusalText (r .text) (r .number) (r .line) ≡ reportText m p (length cm₀) (length cp₀) (length cells) (length flags)
     unfolding reportText
     text-refused = rw none
 
     left-refused : (cm, cp, cells, flags) ≡ reportBuffers m p cm₀ cp₀ cells flags
     unfolding reportBuffers
-    left-refused = rw (none, first-cleared, second-cleared)
+    left-refused = (λ i. (first-left i, second-left i, cells, flags)) ∙ rw none
 
     pub reading-refused : (out : List ℕ) (e : ℕ) (out′ : List ℕ) → Puts out 0 (refusalText (r .text) (r .number) (r .line)) e out′
         → Reports m p cm₀ cp₀ cells flags out e out′ (cm, cp, cells, flags)
@@ -201,19 +195,25 @@ module _ (cm₀ cp₀ m p cm cp : List ℕ) (k : Together) (replied : k ≡ toge
     module _ (cells flags out : List ℕ) (refused : Bool) (e : ℕ) (cells′ flags′ out′ : List ℕ)
         (leaves : Leaves m p (table a (take (a .states * 32) cm)) (table b (take (b .states * 32) cp)) cells flags out refused e cells′ flags′ out′) where
       abbrev checked : Checked
-      checked = checkedOf m p cm₀ cp₀ cells flags x y
+      checked = checkedOf m p (roomOf (length cells) (length flags)) x y
 
       left : Leaves m p (tableRead x) (tableRead y) cells flags out refused e cells′ flags′ out′
       left = rw (first-table, second-table) at leaves
 
-      text-put : Puts out 0 (reportText m p cm₀ cp₀ cells flags) e out′
+      text-put : Puts out 0 (reportText m p (length cm₀) (length cp₀) (length cells) (length flags)) e out′
       unfolding reportText
       text-put = rw (given .are) (left .answers .ends, left .answers .stands)
+
+      abbrev undone : Buffers
+      undone = (replicate (length cm₀) 65535, replicate (length cp₀) 65535, cells, flags)
+
+      abbrev done : Buffers
+      done = let s = synthesis (tableRead x) (tableRead y) in (x .cells, y .cells, stored cells 0 (s .cells), stored flags 0 (s .flags))
 
       -- By the answer, each of the four buffers.
       by-answer : (k : Checked) → checked ≡ k → (cm′ cp′ : List ℕ) → cm′ ≡ unlessRefused k (λ r. replicate (length cm₀) 65535) (x .cells)
           → cp′ ≡ unlessRefused k (λ r. replicate (length cp₀) 65535) (y .cells)
-          → (cm′, cp′, cells′, flags′) ≡ unlessRefused k (λ r. buffersRefused m p cm₀ cp₀ cells flags) (buffersMade m p cm₀ cp₀ cells flags x y)
+          → (cm′, cp′, cells′, flags′) ≡ unlessRefused k (λ r. undone) done
       by-answer Accepted q cm′ cp′ u v = let c = rw q at (left .cells-left) in let f = rw q at (left .flags-left) in λ i. (u i, v i, c i, f i)
       by-answer (Refused r) q cm′ cp′ u v = let c = rw q at (left .cells-left) in let f = rw q at (left .flags-left) in λ i. (u i, v i, c i, f i)
 

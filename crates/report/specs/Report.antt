@@ -49,37 +49,36 @@ module _ (m p : List ℕ) (a b : Table) where
       let six = figures (s .compatible) (t .header .states) (keptCount (s .flags)) (s .rounds) (stepCount t) (endCount t) in
       cond (s .compatible) (withText m p t six) six
 
--- ---- two texts: the call, with cm and cp lent for the cells of module and plan, cells and flags for the result
+-- ---- two texts
 
--- The four lent buffers.
-abbrev pub Buffers : Type 0
-Buffers = List ℕ × List ℕ × List ℕ × List ℕ
-
-module _ (m p cm cp cells flags : List ℕ) where
-  -- What comes of the checks after the reading.
+module _ (m p : List ℕ) (room : ℕ) where
+  -- What comes of the checks after the reading, with room for so many pairs.
   abbrev pub checkedOf : Reading → Reading → Checked
   checkedOf x y =
       let a = tableRead x in
       let b = tableRead y in
-      first (reportChecks m p a b (lentPairs a b (roomOf (length cells) (length flags))))
+      first (reportChecks m p a b (lentPairs a b room))
 
   -- By what was read: of the first refusal, of the reading or after it, the file, the number and the line; else module and plan as read.
   abbrev pub byReading : {A : Type 0} → (ℕ → ℕ → ℕ → A) → (Reading → Reading → A) → Joint → A
   byReading refused made (both x y) = unlessRefused (checkedOf x y) (λ r. refused (r .table) (r .number) 0) (made x y)
   byReading refused made (neither r) = refused (r .text) (r .number) (r .line)
 
-  -- All that is printed.
-  unfoldable pub reportText : List ℕ
-  reportText = byReading refusalText (λ x y. resultText m p (tableRead x) (tableRead y)) (readBoth (length cm) m (length cp) p)
+-- All that is printed, where so many cells are lent for module and plan, and so many cells and flags for the result.
+unfoldable pub reportText : List ℕ → List ℕ → (cm cp cells flags : ℕ) → List ℕ
+reportText m p cm cp cells flags =
+    byReading m p (roomOf cells flags) refusalText (λ x y. resultText m p (tableRead x) (tableRead y)) (readBoth cm m cp p)
 
-  -- After a refusal: two tables without steps, and the result's buffers as they were.
-  abbrev pub buffersRefused : Buffers
-  buffersRefused = (replicate (length cm) 65535, replicate (length cp) 65535, cells, flags)
+-- The four lent buffers: for the cells of module and plan, for the result's cells and flags.
+abbrev pub Buffers : Type 0
+Buffers = List ℕ × List ℕ × List ℕ × List ℕ
 
-  -- Else the tables as read, and the result's buffers, which begin with it.
-  abbrev pub buffersMade : Reading → Reading → Buffers
-  buffersMade x y = let s = synthesis (tableRead x) (tableRead y) in (x .cells, y .cells, stored cells 0 (s .cells), stored flags 0 (s .flags))
-
-  -- What is left in the four buffers.
-  unfoldable pub reportBuffers : Buffers
-  reportBuffers = byReading (λ file number line. buffersRefused) buffersMade (readBoth (length cm) m (length cp) p)
+-- What is left in them: after a refusal two tables without steps, and the result's buffers as they were; else the tables as read, and the result's
+-- buffers, which begin with it.
+unfoldable pub reportBuffers : List ℕ → List ℕ → (cm cp cells flags : List ℕ) → Buffers
+reportBuffers m p cm cp cells flags =
+    byReading m p (roomOf (length cells) (length flags)) (λ file number line. (replicate (length cm) 65535, replicate (length cp) 65535, cells, flags))
+    (λ x y.
+    let s = synthesis (tableRead x) (tableRead y) in
+    (x .cells, y .cells, stored cells 0 (s .cells), stored flags 0 (s .flags)))
+    (readBoth (length cm) m (length cp) p)

@@ -20,7 +20,7 @@ use Rattle.theory.proofs.Table.{table-narrow}
 use Rattle.text.specs.declared.Place.the-variants.{Steps}
 use Rattle.text.specs.Lines.{takesStep, byKind}
 use Rattle.text.specs.Reading.{Signal, Reading, next, indexOf, stepping, entered}
-use Rattle.text.specs.Writing.{nameOf, stepRow, stepRows, hasStep, enabledAt}
+use Rattle.text.specs.Writing.{nameOf, stepRow, stepRows, hasStep, enabledSignals}
 use Rattle.text.proofs.Entries.{stepping-next}
 use Rattle.roundtrip.specs.RoundTrip.{place}
 use Rattle.roundtrip.proofs.Names.{namesIn, index-place}
@@ -160,7 +160,7 @@ module _ (t : Table) (name : List ℕ) (names final : List (List ℕ)) (w : Writ
       })
 
     pub steps : (n s at : ℕ) (a : Reading) → s + n ≡ states → Stepping (s * 32) a → Reaches text (stepRows t names s n) at a (Stepping (states * 32))
-    unfolding stepRows enabledAt
+    unfolding stepRows enabledSignals
     steps zero s at a e u = let f : s ≡ states = omega arith in record { end = a; runs = done; holds = rw f at u }
     steps (suc n) s at a e u =
         let h : s < states = omega arith in

@@ -2,13 +2,13 @@
 -- tests/cases/020-multi-steps. The steps of a state stand by ascending signal (02, S-3); by name those of state 0 would be a, c, d, e, and with
 -- inputs first e, c, a, d.
 use mathlib.Core.Path.{_≡_, refl}
-use mathlib.Core.List.{List, [], _∷_, _++_}
+use mathlib.Core.List.{List, [], _∷_, _++_, map}
 use Prim.Native.Char.{code}
 use Prim.Native.Nat.{ℕ, _+_, _*_}
 use Prim.Native.String.{String, [] as []ˢ, _∷_ as _∷ˢ_}
-use lib.ListN.{replicate, set}
+use lib.ListN.{getD, replicate, set}
 use Rattle.theory.specs.Table.{Table, table}
-use Rattle.text.specs.Writing.{digitsOf, decimal, tabbed, printed, those, signals, tableRow, signalRow, stepRow, stepRows, enabledAt, wholeText}
+use Rattle.text.specs.Writing.{digitsOf, decimal, tabbed, printed, those, signals, tableRow, signalRow, stepRow, stepRows, enabledSignals, wholeText}
 
 -- The bytes of an ASCII text.
 pub ascii : String → List ℕ
@@ -47,5 +47,19 @@ exampleText =
     ++ ascii "step\t3\td\t3\n"
 
 pub example-text : wholeText example (ascii "sequencer") exampleNames ≡ exampleText
-unfolding ascii digitsOf decimal tabbed printed those signals tableRow signalRow stepRow stepRows enabledAt wholeText
+unfolding ascii digitsOf decimal tabbed printed those signals tableRow signalRow stepRow stepRows enabledSignals wholeText
 example-text = refl
+
+-- The same with the steps of state 0 in another order: by name, inputs first, from the highest signal, and the lowest signal last.
+abbrev exampleIn : List ℕ → List ℕ
+exampleIn order =
+    printed (tableRow example (ascii "sequencer") ∷ map (signalRow example exampleNames) (signals example)
+    ++ map (stepRow example exampleNames 0) order ++ stepRows example exampleNames 1 3)
+
+abbrev otherOrders : List (List ℕ)
+otherOrders = (1 ∷ 0 ∷ 4 ∷ 3 ∷ []) ∷ (3 ∷ 0 ∷ 1 ∷ 4 ∷ []) ∷ (4 ∷ 3 ∷ 1 ∷ 0 ∷ []) ∷ (1 ∷ 3 ∷ 4 ∷ 0 ∷ []) ∷ []
+
+-- Byte 55 is the name of the first step: c in the text, and a, e, d and a in the others.
+pub example-orders : map (λ l. getD l 55 0) (exampleText ∷ map exampleIn otherOrders) ≡ 99 ∷ 97 ∷ 101 ∷ 100 ∷ 97 ∷ []
+unfolding ascii digitsOf decimal tabbed printed those signals tableRow signalRow stepRow stepRows enabledSignals wholeText
+example-orders = refl

@@ -1,9 +1,9 @@
 -- What the text of a table says of its order (02, S-3): signals and the steps of a state stand by ascending number; and equal tables,
 -- names and numbering have equal texts.
 use mathlib.Core.Path.{_≡_, refl, sym, _∙_}
-use mathlib.Core.Bool.{Bool, true, false, not, _&&_, cond}
+use mathlib.Core.Bool.{Bool, true, false, not, _&&_, _||_, cond}
 use mathlib.Core.List.{List, [], _∷_, _++_, map, append-assoc}
-use mathlib.Core.Logic.{_↔_}
+use mathlib.Core.Logic.{_↔_, inl, inr}
 use Prim.Native.Nat.{ℕ, zero, suc, _+_, _≤_, _<_}
 use native.Mathlib.Omega.{arith}
 use lib.Dec.{T, ltb, ltb→lt}
@@ -15,10 +15,11 @@ use Rattle.theory.specs.Table.{Table, automaton, cellAt, decode}
 use Rattle.theory.specs.Checks.{Check, unplaced, first, declared, tableChecks}
 use Rattle.theory.specs.Valid.{Valid}
 use Rattle.theory.proofs.Bounded.{any-cong}
-use Rattle.theory.proofs.Checks.{orElse, first-append, checks-valid}
+use Rattle.theory.proofs.Checks.{passed-first, orElse, first-append, first-accepted, first-part, checks-valid}
 use Rattle.theory.proofs.Options.{is-some, when-of}
+use Rattle.theory.proofs.Tests.{or-cases, or-right}
 use Rattle.text.specs.Fields.{same, nameOk}
-use Rattle.text.specs.Writing.{tabbed, printed, those, signals, nameOf, signalRow, stepRow, stepRows, wholeText, hasStep, enabledAt, misnamed, ambiguous, textLength, tooLong, writerChecks, writerBytes, SameWriting}
+use Rattle.text.specs.Writing.{tabbed, printed, those, signals, nameOf, signalRow, stepRow, stepRows, wholeText, hasStep, enabledSignals, misnamed, ambiguous, textLength, tooLong, writerChecks, writerBytes, SameWriting}
 use Rattle.text.proofs.Ascending.{In, Ascending, in-those, those-ascending, those-in}
 
 -- ---- lines
@@ -35,13 +36,13 @@ module _ (t : Table) where
   unfolding signals
   signals-ascending = those-ascending (declared t) 0 32
 
-  pub enabled-ascending : (s : ℕ) → Ascending 0 (enabledAt t s)
-  unfolding enabledAt
+  pub enabled-ascending : (s : ℕ) → Ascending 0 (enabledSignals t s)
+  unfolding enabledSignals
   enabled-ascending s = those-ascending (hasStep t s) 0 32
 
   -- A signal stands there exactly if the state has a step by it.
-  pub enabled-are : (s a : ℕ) → In a (enabledAt t s) ↔ T (hasStep t s a)
-  unfolding enabledAt
+  pub enabled-are : (s a : ℕ) → In a (enabledSignals t s) ↔ T (hasStep t s a)
+  unfolding enabledSignals
   enabled-are s a = (in-those (hasStep t s) a 0 32, λ h. those-in (hasStep t s) a 0 32 h (omega arith) (narrow h))
     where
       narrow : T (hasStep t s a) → a < 32
@@ -68,8 +69,8 @@ module _ (t : Table) (name : List ℕ) (names names′ : List (List ℕ)) (calle
 
   -- The signal of a step is declared.
   module _ (valid : Valid t) where
-    steps-same : (s : ℕ) → s < t .header .states → map (stepRow t names s) (enabledAt t s) ≡ map (stepRow t names′ s) (enabledAt t s)
-    unfolding enabledAt stepRow
+    steps-same : (s : ℕ) → s < t .header .states → map (stepRow t names s) (enabledSignals t s) ≡ map (stepRow t names′ s) (enabledSignals t s)
+    unfolding enabledSignals stepRow
     steps-same s h = those-map (hasStep t s) (stepRow t names s) (stepRow t names′ s) (λ a k.
         let (u, e) = is-some (automaton t .next s a) k in
         rw (called a (valid .known s a u h e))) 0 32
@@ -111,14 +112,29 @@ module _ (t : Table) (name : List ℕ) (names names′ : List (List ℕ)) (calle
       go Accepted e = rw (misnamed-same, ambiguous-same, text-same (checks-valid 1 t .0 e))
       go (Refused r) e = refl
 
--- Equal tables, names and numbering have equal texts; for the checks no table is excluded.
+-- Equal tables, names and numbering have equal texts. A step by an undeclared signal would bring in a name that is not asked for, so the table is
+-- valid; for the checks no table is excluded.
 module _ (t : Table) (name : List ℕ) (names : List (List ℕ)) (u : Table) (name′ : List ℕ) (names′ : List (List ℕ))
     (w : SameWriting t name names u name′ names′) where
   pub same-texts : Valid t → wholeText t name names ≡ wholeText u name′ names′
-  same-texts valid = text-same t name names names′ (w .called) valid ∙ (λ i. wholeText (w .tables i) (w .titles i) names′)
+  same-texts valid = text-same t name names names′ (w .signalNames) valid ∙ (λ i. wholeText (w .tables i) (w .tableNames i) names′)
 
   pub same-checks : (room : ℕ) → first (writerChecks t name names room) ≡ first (writerChecks u name′ names′ room)
-  same-checks room = checks-same t name names names′ (w .called) room ∙ (λ i. first (writerChecks (w .tables i) (w .titles i) names′ room))
+  same-checks room = checks-same t name names names′ (w .signalNames) room ∙ (λ i. first (writerChecks (w .tables i) (w .tableNames i) names′ room))
+
+-- A call that the writer takes is taken with any other room for the text.
+pub enough-room : (t : Table) (name : List ℕ) (names : List (List ℕ)) (room other : ℕ) → first (writerChecks t name names room) ≡ Accepted
+    → textLength t name names ≤ other → first (writerChecks t name names other) ≡ Accepted
+unfolding writerChecks
+enough-room t name names room other e h =
+    let n = textLength t name names in
+    let (valid, rest) = first-part (tableChecks 1 t) _ e in
+    let (a, (b, (c, (d, _)))) = passed-first _ .0 rest in
+    let fits : ¬ T (ltb other n || ltb 65536 n) = λ z. elim (or-cases (ltb other n) (ltb 65536 n) z) [
+      | inl l ↦ omega (arith, ltb→lt other n l)
+      | inr l ↦ d (or-right (ltb room n) (ltb 65536 n) l)
+    ] in
+    first-accepted (tableChecks 1 t) _ valid ∙ passed-first _ .1 (a, (b, (c, (fits, tt))))
 
 -- ---- the lent bytes
 

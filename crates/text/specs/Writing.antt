@@ -71,13 +71,13 @@ abbrev pub hasStep : Table → ℕ → ℕ → Bool
 hasStep t s a = isSome (automaton t .next s a)
 
 -- The signals that are enabled at a state (001, Definition 1), by ascending number (02, S-3).
-unfoldable pub enabledAt : Table → ℕ → List ℕ
-enabledAt t s = those (hasStep t s) 0 32
+unfoldable pub enabledSignals : Table → ℕ → List ℕ
+enabledSignals t s = those (hasStep t s) 0 32
 
 -- The steps of the states from s on, n of them.
 unfoldable pub stepRows : Table → List (List ℕ) → ℕ → ℕ → List (List (List ℕ))
 stepRows t names s zero = []
-stepRows t names s (suc n) = map (stepRow t names s) (enabledAt t s) ++ stepRows t names (suc s) n
+stepRows t names s (suc n) = map (stepRow t names s) (enabledSignals t s) ++ stepRows t names (suc s) n
 
 -- The whole text: signals by ascending number; steps by state of departure, and those of one state by ascending signal.
 unfoldable pub wholeText : Table → List ℕ → List (List ℕ) → List ℕ
@@ -112,8 +112,9 @@ module _ (t : Table) (name : List ℕ) (names : List (List ℕ)) where
 
 -- ---- two calls
 
--- Equal tables, names and numbering (02, S-3). Of the names, those of declared signals count.
+-- Equal tables, names and numbering (02, S-3): the same cells, lists and states, the same name of the table, and the same name for each declared
+-- signal's number.
 pub record SameWriting (t : Table) (name : List ℕ) (names : List (List ℕ)) (u : Table) (name′ : List ℕ) (names′ : List (List ℕ)) : Type 0 where
   pub tables : t ≡ u
-  pub titles : name ≡ name′
-  pub called : (a : ℕ) → T (declared t a) → nameOf names a ≡ nameOf names′ a
+  pub tableNames : name ≡ name′
+  pub signalNames : (a : ℕ) → T (declared t a) → nameOf names a ≡ nameOf names′ a

@@ -21,7 +21,7 @@ use Rattle.theory.specs.Checks.{declared}
 use Rattle.theory.specs.Valid.{Valid}
 use Rattle.theory.proofs.Filled.{any-default}
 use Rattle.sets.proofs.Visit.{low}
-use Rattle.text.specs.Writing.{printed, those, signals, nameOf, tableRow, signalRow, stepRow, stepRows, wholeText, hasStep, enabledAt}
+use Rattle.text.specs.Writing.{printed, those, signals, nameOf, tableRow, signalRow, stepRow, stepRows, wholeText, hasStep, enabledSignals}
 use Rattle.text.proofs.Entries.{is-true}
 use Rattle.text.proofs.Written.{printed-append}
 use Rattle.emit.specs.Rows.{tableText, signalText, stepText}
@@ -119,8 +119,8 @@ module _ (n : ℕ) (cells : List ℕ) (names : List (List ℕ)) where
 
   -- All steps of a state, where their signals are in the set.
   steps-all : (set : ℕ) → Known n cells set → (state : ℕ) → state < n
-      → printed (map (stepRow t names state) (enabledAt t state)) ≡ stateLines n cells names state set
-  unfolding enabledAt
+      → printed (map (stepRow t names state) (enabledSignals t state)) ≡ stateLines n cells names state set
+  unfolding enabledSignals
   steps-all set known state h =
       ap (λ (l : List ℕ). printed (map (stepRow t names state) l))
       (those-same (hasStep t state) (λ a. has set a && hasStep t state a) 0 32 (λ a z k. member a (omega arith)))
@@ -139,7 +139,7 @@ module _ (n : ℕ) (cells : List ℕ) (names : List (List ℕ)) where
   unfolding stepRows
   rows-next set known s h =
       let e : n - s ≡ suc (n - (s + 1)) = omega arith in
-      rw (e, add-one s) (printed-append (map (stepRow t names s) (enabledAt t s)) (stepRows t names (suc s) (n - suc s))
+      rw (e, add-one s) (printed-append (map (stepRow t names s) (enabledSignals t s)) (stepRows t names (suc s) (n - suc s))
       ∙ ap (λ (l : List ℕ). l ++ printed (stepRows t names (suc s) (n - suc s))) (steps-all set known s h))
 
   pub rows-all : stepLines n cells names ≡ rowsFrom 0
@@ -171,7 +171,7 @@ module _ (a : Automaton) (cells : List ℕ) (names : List (List ℕ)) where
 
   all-steps : (s n : ℕ) → stepRows (table a cells) names s n
       ≡ stepRows (steps (a .states) cells) names s n
-  unfolding stepRows enabledAt stepRow
+  unfolding stepRows enabledSignals stepRow
   all-steps s zero = refl
   all-steps s (suc n) = rw (all-steps (suc s) n)
 

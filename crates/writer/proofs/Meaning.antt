@@ -1,8 +1,9 @@
 -- What a caller may conclude from replies and lent bytes of the writer, for all arguments.
-use mathlib.Core.Path.{_≡_, refl, ap, _∙_}
+use mathlib.Core.Path.{_≡_, refl, sym, ap, _∙_}
 use mathlib.Core.Bool.{Bool, true, false}
 use mathlib.Core.List.{List, [], _∷_}
-use Prim.Native.Nat.{ℕ}
+use Prim.Native.Nat.{ℕ, _≤_}
+use native.Mathlib.Omega.{arith}
 use lib.ListN.{length, take}
 use Rattle.theory.specs.declared.Refusal.{Refusal}
 use Rattle.theory.specs.declared.Checked.{Checked}
@@ -13,8 +14,8 @@ use Rattle.theory.specs.Locations.{LocatedIn}
 use Rattle.theory.specs.Valid.{Valid}
 use Rattle.theory.proofs.Checks.{first-part, checks-valid}
 use Rattle.theory.proofs.Locations.{one-located, reply-refuses}
-use Rattle.text.specs.Writing.{textLength, writerChecks, writerBytes, SameWriting}
-use Rattle.text.proofs.Written.{same-texts, same-checks, written-text}
+use Rattle.text.specs.Writing.{wholeText, textLength, writerChecks, writerBytes, SameWriting}
+use Rattle.text.proofs.Written.{same-texts, same-checks, enough-room, written-text}
 use Rattle.writer.specs.declared.Printed.{Printed}
 use Rattle.writer.specs.declared.Printed.the-variants as reply
 use Rattle.writer.specs.Replies.{writerReply}
@@ -52,13 +53,19 @@ module _ (t : Table) (name : List ℕ) (names : List (List ℕ)) (u : Table) (na
       go Accepted e = ap reply.Length (length-same (text-valid t name names room e))
       go (Refused r) e = refl
 
-  -- Two calls that write leave equal texts, whatever is lent.
-  pub write-same-text : (bytes other : List ℕ) (n k : ℕ) → writerReply t name names (length bytes) ≡ reply.Length n
-      → writerReply u name′ names′ (length other) ≡ reply.Length k
-      → take n (writerBytes t name names bytes) ≡ take k (writerBytes u name′ names′ other)
+  -- If one call writes, the other does with any room for the text, and leaves the same one.
+  pub write-same-text : (bytes other : List ℕ) (n : ℕ) → writerReply t name names (length bytes) ≡ reply.Length n → n ≤ length other
+      → (writerReply u name′ names′ (length other) ≡ reply.Length n)
+      × (take n (writerBytes u name′ names′ other) ≡ take n (writerBytes t name names bytes))
   unfolding writerReply
-  write-same-text bytes other n k e f =
+  write-same-text bytes other n e h =
       let (ok, long) = accepted-of (first (writerChecks t name names (length bytes))) _ n e in
-      let (ok′, long′) = accepted-of (first (writerChecks u name′ names′ (length other))) _ k f in
-      rw (← long, ← long′, written-text t name names bytes ok, written-text u name′ names′ other ok′)
-      (same-texts t name names u name′ names′ w (text-valid t name names (length bytes) ok))
+      let valid = text-valid t name names (length bytes) ok in
+      let long′ : textLength u name′ names′ ≡ n = sym (length-same valid) ∙ long in
+      let ok′ : first (writerChecks u name′ names′ (length other)) ≡ Accepted =
+      sym (same-checks t name names u name′ names′ w (length other)) ∙ enough-room t name names (length bytes) (length other) ok (omega arith) in (
+        rw ok′ (ap reply.Length long′),
+        (let z : take n (writerBytes u name′ names′ other) ≡ wholeText u name′ names′ = rw (← long′) (written-text u name′ names′ other ok′) in z)
+            ∙ sym (same-texts t name names u name′ names′ w valid)
+            ∙ sym (let z : take n (writerBytes t name names bytes) ≡ wholeText t name names = rw (← long) (written-text t name names bytes ok) in z),
+      )

@@ -23,10 +23,7 @@ loop-holds : tie.Need-loop-holds Inv-loop μ-loop
 loop-holds c = (omega arith, refl, omega arith, counted-none _ _ (rows-all _ _ _))
 
 state-lines-requires : tie.Need-state-lines-requires Inv-loop μ-loop
-state-lines-requires c κs =
-    let e = c .before .before in
-    let s = e .before .before in
-    (s .pre .0, (rw (e .declared .ensures) (s .pre .1 .0), omega arith))
+state-lines-requires c κs = let e = c .before .before in rw (e .declared .ensures) (search needs)
 
 add-total : tie.Need-add-total Inv-loop μ-loop
 add-total c =

@@ -50,11 +50,7 @@ shared-slice-read-cell-line : tie.Need-shared-slice-read-cell-line Inv-loop μ-l
 shared-slice-read-cell-line c = omega (arith, below (c .before .before))
 
 cell-line-requires : tie.Need-cell-line-requires Inv-loop μ-loop
-cell-line-requires c κs =
-    let v = c .before .before in
-    let l = v .before .before in
-    let s = l .before .before .before in
-    entry-lent (s .args .states) (s .args .cells .now) (s .args .names .now) (s .pre .0) (s .args .state) _ _ (l .loop .inv .1) (s .pre .1) (below v)
+cell-line-requires c κs = search (entry-lent, below (c .before .before), needs)
 
 rest-requires : tie.Need-rest-requires Inv-loop μ-loop
 rest-requires c κs = search needs
