@@ -172,7 +172,7 @@ fn write_again(tally: &mut Tally, r: &mut Random, what: &str, first: &Writing, a
     });
 }
 
-/// Each undeclared signal gets another name, good or bad or a declared signal's; the names may end after the last declared signal, or have all 32.
+/// Each undeclared signal gets a new name, good or bad or a declared signal's; the names may end after the last declared signal, or have all 32.
 fn rename_undeclared(r: &mut Random, Writing { table, name, names }: &Writing) -> Writing {
     let mut renamed = names.clone();
     for signal in (0..names.len()).filter(|&signal| !has(table.signals(), signal)) {

@@ -13,7 +13,7 @@ struct Step<'t> {
 type Order = (&'static str, fn(&Step, &Step) -> bool);
 
 const ORDERS: &[Order] = &[
-    ("several steps of a state", |_, _| true),
+    ("steps of a state not from the highest signal", |_, _| true),
     ("steps of a state not by name", |one, next| one.signal > next.signal),
     ("steps of a state not inputs before outputs", |one, next| one.is_output && !next.is_output),
     ("steps of a state not outputs before inputs", |one, next| !one.is_output && next.is_output),

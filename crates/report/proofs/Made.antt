@@ -1,7 +1,7 @@
 -- What is printed of the maker's reply is what the definition says of the two tables.
 use mathlib.Core.Path.{_≡_, refl, sym, ap, _∙_}
-use mathlib.Core.Bool.{Bool, true, false}
-use mathlib.Core.List.{List}
+use mathlib.Core.Bool.{Bool, true, false, cond}
+use mathlib.Core.List.{List, []}
 use native.Mathlib.Omega.{arith}
 use Prim.Native.Nat.{ℕ, _*_, _≤_}
 use lib.ListN.{length}
@@ -19,7 +19,7 @@ use Rattle.counts.specs.Cells.{stepsIn, endsIn}
 use Rattle.counts.proofs.Cells.{steps-of-table, ends-of-table}
 use Rattle.synthesis.specs.declared.Synthesis.{Synthesis}
 use Rattle.synthesis.specs.declared.Synthesis.the-variants as made
-use Rattle.synthesis.specs.Replies.{decidedOf, synthesisReply, synthesisCells, synthesisFlags}
+use Rattle.synthesis.specs.Replies.{verdict, decidedOf, synthesisReply, synthesisCells, synthesisFlags}
 use Rattle.printout.specs.Lines.{refusalText, figures}
 use Rattle.report.specs.Report.{textChecks, withText, reportChecks, resultText}
 use Rattle.report.specs.Parts.{sixOf, isRefused, answerText, Answers, replyChecked, replyText, Makes}
@@ -130,56 +130,28 @@ module _ (m p : List ℕ) (a b : Table) (cells flags cells′ flags′ : List �
         let ends : endsIn (t .header .states) cells′ ≡ endCount t = ap (endsIn (t .header .states)) cells-are ∙ ends-of-table t (omega (arith, few)) full in
         λ i. figures v (t .header .states) (keptCount (flags-are i)) (synthesis a b .rounds) (steps i) (ends i)
 
-    module _ (compatible : synthesis a b .compatible ≡ true) where
-      reply-yes : s ≡ made.Controller (t .header) (synthesis a b .rounds)
-      reply-yes = decided ∙ rw compatible
+    checked-same : replyChecked m p s cells′ ≡ whole
+    unfolding reportChecks first
+    checked-same = (λ i. replyChecked m p (decided i) (cells-are i)) ∙ go (synthesis a b .compatible) ∙ sym (first-accepted (synthesisChecks a b (n * 32) n) _ yes)
+      where
+        go : (v : Bool) → replyChecked m p (verdict v (t .header) (synthesis a b .rounds)) (t .cells) ≡ first (cond v (textChecks m p t) [])
+        go true = refl
+        go false = refl
 
-      whole-yes : whole ≡ first (textChecks m p t)
-      unfolding reportChecks
-      whole-yes = first-accepted (synthesisChecks a b (n * 32) n) _ yes ∙ rw compatible
+    text-same : replyText m p s cells′ flags′ ≡ resultText m p a b
+    unfolding resultText
+    text-same = (λ i. replyText m p (decided i) cells′ flags′) ∙ go (synthesis a b .compatible)
+      where
+        go : (v : Bool) → replyText m p (verdict v (t .header) (synthesis a b .rounds)) cells′ flags′ ≡ cond v (withText m p t (figured v)) (figured v)
+        go true = λ i. withText m p (table (t .header) (cells-are i)) (six true i)
+        go false = six false
 
-      checked-yes : replyChecked m p s cells′ ≡ whole
-      checked-yes = rw (reply-yes, cells-are, whole-yes)
-
-      result-yes : resultText m p a b ≡ withText m p t (figured true)
-      unfolding resultText
-      result-yes = rw compatible
-
-      text-yes : replyText m p s cells′ flags′ ≡ resultText m p a b
-      text-yes =
-          (let z : replyText m p s cells′ flags′ ≡ withText m p (table (t .header) cells′) (sixOf true (t .header .states) (synthesis a b .rounds) cells′ flags′) = rw reply-yes in z)
-          ∙ (λ i. withText m p (table (t .header) (cells-are i)) (six true i)) ∙ sym result-yes
-
-    module _ (dropped : synthesis a b .compatible ≡ false) where
-      reply-none : s ≡ made.NoController (t .header) (synthesis a b .rounds)
-      reply-none = decided ∙ rw dropped
-
-      whole-none : whole ≡ Accepted
-      unfolding reportChecks first
-      whole-none = first-accepted (synthesisChecks a b (n * 32) n) _ yes ∙ rw dropped
-
-      checked-none : replyChecked m p s cells′ ≡ whole
-      checked-none = rw (reply-none, whole-none)
-
-      result-none : resultText m p a b ≡ figured false
-      unfolding resultText
-      result-none = rw dropped
-
-      text-none : replyText m p s cells′ flags′ ≡ resultText m p a b
-      text-none =
-          (let z : replyText m p s cells′ flags′ ≡ sixOf false (t .header .states) (synthesis a b .rounds) cells′ flags′ = rw reply-none in z)
-          ∙ six false ∙ sym result-none
-
-    accepted-made : replyChecked m p s cells′ ≡ whole → replyText m p s cells′ flags′ ≡ resultText m p a b → Makes m p a b n out refused e cells′ flags′ out′
-    accepted-made k l = makes (k, λ i. answerText (k i) (l i)) (λ q. (cells-are, flags-are))
+    accepted-made : Makes m p a b n out refused e cells′ flags′ out′
+    accepted-made = makes (checked-same, λ i. answerText (checked-same i) (text-same i)) (λ q. (cells-are, flags-are))
 
   pub pairs-made : Makes m p a b n out refused e cells′ flags′ out′
-  pairs-made = by-check checked refl
+  pairs-made = go checked refl
     where
-      by-verdict : checked ≡ Accepted → (v : Bool) → synthesis a b .compatible ≡ v → Makes m p a b n out refused e cells′ flags′ out′
-      by-verdict ok true q = accepted-made ok (checked-yes ok q) (text-yes ok q)
-      by-verdict ok false q = accepted-made ok (checked-none ok q) (text-none ok q)
-
-      by-check : (k : Checked) → checked ≡ k → Makes m p a b n out refused e cells′ flags′ out′
-      by-check Accepted q = by-verdict q (synthesis a b .compatible) refl
-      by-check (Refused r) q = refused-made r q
+      go : (k : Checked) → checked ≡ k → Makes m p a b n out refused e cells′ flags′ out′
+      go Accepted q = accepted-made q
+      go (Refused r) q = refused-made r q

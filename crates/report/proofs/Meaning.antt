@@ -29,7 +29,7 @@ use Rattle.text.proofs.Decimal.{Digits, digits-of}
 use Rattle.emit.specs.Buffer.{stored}
 use Rattle.emit.proofs.Buffer.{stored-front}
 use Rattle.printout.specs.Lines.{refusalText, figures}
-use Rattle.report.specs.Report.{lentPairs, roomOf, reportChecks, resultText, Buffers, checkedOf, byReading, reportText, reportBuffers}
+use Rattle.report.specs.Report.{lentPairs, roomOf, reportChecks, resultText, checkedOf, byReading, reportText, reportBuffers}
 use Rattle.report.proofs.Whole.{lent-fits}
 
 -- What is printed of a number below 100,000 is its decimal: digits, five at most, no needless zero before them, and their value is the number.

@@ -6,7 +6,7 @@ use Prim.Native.Nat.{ℕ, _*_, _/_}
 use lib.Dec.{leb}
 use lib.ListN.{length, replicate}
 use Rattle.theory.specs.declared.Checked.{Checked}
-use Rattle.theory.specs.Table.{Table, synthesis, controller, keptCount, stepCount, endCount}
+use Rattle.theory.specs.Table.{Table, Composition, synthesis, controller, keptCount, stepCount, endCount}
 use Rattle.theory.specs.Checks.{Check, first, unlessRefused, synthesisChecks}
 use Rattle.text.specs.Reading.{Reading, Joint, both, neither, readBoth, tableRead}
 use Rattle.text.specs.Writing.{wholeText, writerChecks}
@@ -77,8 +77,7 @@ Buffers = List ℕ × List ℕ × List ℕ × List ℕ
 -- buffers, which begin with it.
 unfoldable pub reportBuffers : List ℕ → List ℕ → (cm cp cells flags : List ℕ) → Buffers
 reportBuffers m p cm cp cells flags =
-    byReading m p (roomOf (length cells) (length flags)) (λ file number line. (replicate (length cm) 65535, replicate (length cp) 65535, cells, flags))
-    (λ x y.
-    let s = synthesis (tableRead x) (tableRead y) in
-    (x .cells, y .cells, stored cells 0 (s .cells), stored flags 0 (s .flags)))
-    (readBoth (length cm) m (length cp) p)
+    let undone : Buffers = (replicate (length cm) 65535, replicate (length cp) 65535, cells, flags) in
+    let result : Reading → Reading → Composition = λ x y. synthesis (tableRead x) (tableRead y) in
+    let done : Reading → Reading → Buffers = λ x y. (x .cells, y .cells, stored cells 0 (result x y .cells), stored flags 0 (result x y .flags)) in
+    byReading m p (roomOf (length cells) (length flags)) (λ file number line. undone) done (readBoth (length cm) m (length cp) p)

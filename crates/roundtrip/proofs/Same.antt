@@ -12,14 +12,15 @@ use lib.Seq.{getD-take}
 use Rattle.theory.specs.Bounded.{any}
 use Rattle.theory.specs.Table.{Table, member, cellAt}
 use Rattle.theory.specs.Checks.{declared}
+use Rattle.theory.specs.Valid.{Valid}
 use Rattle.theory.proofs.Tests.{and-left, and-right, and-both, test}
 use Rattle.theory.proofs.Bounded.{any-at, at-any}
 use Rattle.theory.proofs.Table.{table-narrow}
-use Rattle.text.specs.Reading.{Reading, tableRead}
+use Rattle.text.specs.Reading.{Signal, Reading, tableRead}
 use Rattle.text.specs.Writing.{signals, nameOf}
 use Rattle.text.specs.Lookup.{nobody, declares}
 use Rattle.text.proofs.Roles.{rolesAt}
-use Rattle.roundtrip.specs.RoundTrip.{SameByName}
+use Rattle.roundtrip.specs.RoundTrip.{ReadAgain}
 use Rattle.roundtrip.proofs.Names.{place-name}
 use Rattle.roundtrip.proofs.Declarations.{numberIn, Numbered}
 use Rattle.roundtrip.proofs.Trip.{Copy}
@@ -51,19 +52,23 @@ module _ (t : Table) (names final : List (List ℕ)) (n : Numbered t names final
   copy-cell : (s b : ℕ) → s < t .header .states → b < 32 → cellAt (tableRead st) s b ≡ getD (st .cells) (s * 32 + b) 65535
   copy-cell s b h l = getD-take (st .header .states * 32) (st .cells) (s * 32 + b) 65535 (rw (c .states) (digits-lt h l))
 
-  pub copy-same : (names′ : ℕ → List ℕ) (number : ℕ → ℕ) → ((a : ℕ) → T (declared t a) → number a ≡ numberIn names final a)
-      → ((a : ℕ) → T (declared t a) → names′ (number a) ≡ nameOf names a) → SameByName t (nameOf names) (tableRead st) names′ number
-  copy-same names′ number e name = record {
-    states = c .states;
-    initial = c .initial;
-    name = name;
-    inputs = λ a d. ap (member (st .header .inputs)) (e a d) ∙ ap (λ p. p .0) (c .roles a d);
-    outputs = λ a d. ap (member (st .header .outputs)) (e a d) ∙ ap (λ p. p .1) (c .roles a d);
-    only = λ b d. let (a, h, f) = copy-only b d in (a, h, e a h ∙ f);
-    steps = λ s a h d.
-        ap (cellAt (tableRead st) s) (e a d) ∙ copy-cell s (numberIn names final a) h (omega (arith, n .within a d, n .few)) ∙ c .cells (s, a) (h, d);
-    no-others = λ s b h l m. copy-cell s b h l ∙ c .blank (s * 32 + b) (λ k g f.
-        let q : numberIn names final (k .1) < 32 = omega (arith, n .within (k .1) (g .1), n .few) in
-        let p : numberIn names final (k .1) ≡ b = omega arith in
-        m (rw p at (copy-declares (k .1) (g .1))));
+  pub copy-again : Valid (tableRead st) → (find : ℕ → Signal) (refusal number : ℕ → ℕ) → ((a : ℕ) → T (declared t a) → number a ≡ numberIn names final a)
+      → ((a : ℕ) → T (declared t a) → (find (number a) .name ≡ nameOf names a) × (refusal (number a) ≡ 0)) → ReadAgain t names st find refusal number
+  copy-again valid find refusal number e found = record {
+    valid = valid;
+    same = record {
+      states = c .states;
+      initial = c .initial;
+      name = λ a d. found a d .0;
+      inputs = λ a d. ap (member (st .header .inputs)) (e a d) ∙ ap (λ p. p .0) (c .roles a d);
+      outputs = λ a d. ap (member (st .header .outputs)) (e a d) ∙ ap (λ p. p .1) (c .roles a d);
+      only = λ b d. let (a, h, f) = copy-only b d in (a, h, e a h ∙ f);
+      steps = λ s a h d.
+          ap (cellAt (tableRead st) s) (e a d) ∙ copy-cell s (numberIn names final a) h (omega (arith, n .within a d, n .few)) ∙ c .cells (s, a) (h, d);
+      no-others = λ s b h l m. copy-cell s b h l ∙ c .blank (s * 32 + b) (λ k g f.
+          let q : numberIn names final (k .1) < 32 = omega (arith, n .within (k .1) (g .1), n .few) in
+          let p : numberIn names final (k .1) ≡ b = omega arith in
+          m (rw p at (copy-declares (k .1) (g .1))));
+    };
+    found = λ a d. found a d .1;
   }

@@ -23,7 +23,7 @@ use Rattle.roundtrip.specs.RoundTrip.{rank, rankOf, RoundTrip, namesOf, 
 use Rattle.roundtrip.proofs.Names.{place-name, different-begins, begins-place, number-within, different-distinct, rank-place, namesIn}
 use Rattle.roundtrip.proofs.Rows.{Writable, writable}
 use Rattle.roundtrip.proofs.Declarations.{numberIn, Numbered}
-use Rattle.roundtrip.proofs.Same.{copy-declares, copy-name, copy-same}
+use Rattle.roundtrip.proofs.Same.{copy-declares, copy-name, copy-again}
 use Rattle.roundtrip.proofs.Trip.{signals-distinct, declared-in, Copy, trip-from}
 
 -- ---- a text alone
@@ -72,13 +72,9 @@ module _ (t : Table) (name : List ℕ) (names : List (List ℕ)) (w : Writable t
       record {
         reading = st;
         read = e;
-        again = record {
-          valid = accepted-valid [] cells st (accepted [] 1 cells (wholeText t name names) st (omega arith) e);
-          same =
-              copy-same t names (namesOf t names) alone-numbered st c (λ b. lookupAlone (wholeText t name names) b .name) (rankOf t)
-              rank-number (λ a d. found-alone a d .0);
-          found = λ a d. found-alone a d .1;
-        };
+        again =
+            copy-again t names (namesOf t names) alone-numbered st c (accepted-valid [] cells st (accepted [] 1 cells (wholeText t name names) st (omega arith) e))
+            (lookupAlone (wholeText t name names)) (lookupNumberAlone (wholeText t name names)) (rankOf t) rank-number found-alone;
       }
 
 -- All that the writer takes is read back.
@@ -182,20 +178,12 @@ module _ (m : Table) (name : List ℕ) (names : List (List ℕ)) (w : Writable m
         first = r .first;
         second = r .second;
         read = r .read;
-        component = record {
-          valid = r .first-valid;
-          same =
-              copy-same m names (namesOf m names) (alone-numbered m name names w) (r .first) (r .first-copy) (λ b. lookup text text′ b .name)
-              (rankOf m) (rank-number m name names w) (λ a d. found-first a d .0);
-          found = λ a d. found-first a d .1;
-        };
-        specification = record {
-          valid = r .second-valid;
-          same =
-              copy-same p names′ all second-numbered (r .second) (r .second-copy) (λ b. lookup text text′ b .name) (numberIn names′ all) (λ b d. refl)
-              (λ b d. found-second b d .0);
-          found = λ b d. found-second b d .1;
-        };
+        component =
+            copy-again m names (namesOf m names) (alone-numbered m name names w) (r .first) (r .first-copy) (r .first-valid)
+            (lookup text text′) (lookupNumber text text′) (rankOf m) (rank-number m name names w) found-first;
+        specification =
+            copy-again p names′ all second-numbered (r .second) (r .second-copy) (r .second-valid)
+            (lookup text text′) (lookupNumber text text′) (numberIn names′ all) (λ b d. refl) found-second;
         shared = shared;
       }
 
@@ -212,7 +200,7 @@ joint-trip m name names room e p name′ names′ room′ e′ few cells cells�
 
 pub written-trip : (t : Table) (name : List ℕ) (names : List (List ℕ)) (bytes : List ℕ) → first (writerChecks t name names (length bytes)) ≡ Accepted
     → (cells : ℕ) → t .header .states * 32 ≤ cells → RoundTrip t names cells (take (textLength t name names) (writerBytes t name names bytes))
-written-trip t name names bytes e cells fits = rw (written-text t name names bytes e) (round-trip t name names (length bytes) e cells fits)
+written-trip t name names bytes e cells fits = rw (written-text t name names bytes e _ refl) (round-trip t name names (length bytes) e cells fits)
 
 pub written-joint-trip : (m : Table) (name : List ℕ) (names : List (List ℕ)) (bytes : List ℕ) → first (writerChecks m name names (length bytes)) ≡ Accepted
     → (p : Table) (name′ : List ℕ) (names′ : List (List ℕ)) (bytes′ : List ℕ) → first (writerChecks p name′ names′ (length bytes′)) ≡ Accepted
@@ -220,5 +208,5 @@ pub written-joint-trip : (m : Table) (name : List ℕ) (names : List (List ℕ))
     → JointTrip m names p names′ cells cells′ (take (textLength m name names) (writerBytes m name names bytes))
     (take (textLength p name′ names′) (writerBytes p name′ names′ bytes′))
 written-joint-trip m name names bytes e p name′ names′ bytes′ e′ few cells cells′ fits fits′ =
-    rw (written-text m name names bytes e, written-text p name′ names′ bytes′ e′)
+    rw (written-text m name names bytes e _ refl, written-text p name′ names′ bytes′ e′ _ refl)
     (joint-trip m name names (length bytes) e p name′ names′ (length bytes′) e′ few cells cells′ fits fits′)

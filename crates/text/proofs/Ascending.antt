@@ -9,6 +9,7 @@ use native.Mathlib.Decide.{ℕ-discrete}
 use lib.Dec.{T}
 use lib.ListN.{length}
 use Rattle.text.specs.Writing.{those}
+use Rattle.text.proofs.Entries.{is-true}
 
 -- The number a stands in the list.
 abbrev pub In : ℕ → List ℕ → Type 0
@@ -55,15 +56,11 @@ module _ (f : ℕ → Bool) where
   those-in a s (suc n) t h k =
       let l = those f (suc s) n in
       elim (ℕ-discrete s a) [
-        | yes e ↦ go (f s) l e (subst (λ x. T (f x)) (sym e) t)
+        | yes e ↦ rw (is-true (f s) (subst (λ x. T (f x)) (sym e) t)) (inl e)
         | no d ↦
             let rest : In a l = those-in a (suc s) n t (omega arith) (omega arith) in
             elim (f s) as (λ b. In a (cond b (s ∷ l) l)) [ true ↦ inr rest | false ↦ rest ]
       ]
-    where
-      go : (b : Bool) (l : List ℕ) → s ≡ a → T b → In a (cond b (s ∷ l) l)
-      go true l e t = inl e
-      go false l e t = absurd t
 
   pub those-few : (s n : ℕ) → length (those f s n) ≤ n
   unfolding those

@@ -11,12 +11,12 @@ use lib.ListN.{length, take, drop}
 use lib.Seq.{take-at}
 use Rattle.theory.specs.declared.Checked.{Checked}
 use Rattle.theory.specs.declared.Checked.the-variants.{Accepted, Refused}
-use Rattle.theory.specs.Table.{Table, automaton, cellAt, decode}
+use Rattle.theory.specs.Table.{Table, automaton}
 use Rattle.theory.specs.Checks.{Check, unplaced, first, declared, tableChecks}
 use Rattle.theory.specs.Valid.{Valid}
 use Rattle.theory.proofs.Bounded.{any-cong}
 use Rattle.theory.proofs.Checks.{passed-first, orElse, first-append, first-accepted, first-part, checks-valid}
-use Rattle.theory.proofs.Options.{is-some, when-of}
+use Rattle.theory.proofs.Options.{is-some}
 use Rattle.theory.proofs.Tests.{or-cases, or-right}
 use Rattle.text.specs.Fields.{same, nameOk}
 use Rattle.text.specs.Writing.{tabbed, printed, those, signals, nameOf, signalRow, stepRow, stepRows, wholeText, hasStep, enabledSignals, misnamed, ambiguous, textLength, tooLong, writerChecks, writerBytes, SameWriting}
@@ -41,15 +41,9 @@ module _ (t : Table) where
   enabled-ascending s = those-ascending (hasStep t s) 0 32
 
   -- A signal stands there exactly if the state has a step by it.
-  pub enabled-are : (s a : ℕ) → In a (enabledSignals t s) ↔ T (hasStep t s a)
+  pub enabled-are : (s a : ℕ) → a < 32 → In a (enabledSignals t s) ↔ T (hasStep t s a)
   unfolding enabledSignals
-  enabled-are s a = (in-those (hasStep t s) a 0 32, λ h. those-in (hasStep t s) a 0 32 h (omega arith) (narrow h))
-    where
-      narrow : T (hasStep t s a) → a < 32
-      narrow h =
-          let (u, e) = is-some (automaton t .next s a) h in
-          let (l, _) = when-of (ltb a 32) (decode (t .header .states) (cellAt t s a)) e in
-          ltb→lt a 32 l
+  enabled-are s a h = (in-those (hasStep t s) a 0 32, λ k. those-in (hasStep t s) a 0 32 k (omega arith) h)
 
 -- ---- equal texts
 
@@ -140,6 +134,6 @@ enough-room t name names room other e h =
 
 -- They begin with the text, where the writer takes the call.
 pub written-text : (t : Table) (name : List ℕ) (names : List (List ℕ)) (bytes : List ℕ) → first (writerChecks t name names (length bytes)) ≡ Accepted
-    → take (textLength t name names) (writerBytes t name names bytes) ≡ wholeText t name names
+    → (n : ℕ) → textLength t name names ≡ n → take n (writerBytes t name names bytes) ≡ wholeText t name names
 unfolding writerBytes textLength
-written-text t name names bytes e = rw e (take-at (wholeText t name names) (drop (length (wholeText t name names)) bytes) (length (wholeText t name names)) refl)
+written-text t name names bytes e n h = rw e (take-at (wholeText t name names) (drop (length (wholeText t name names)) bytes) n h)

@@ -81,23 +81,16 @@ module _ (n : ℕ) (cells : List ℕ) (names : List (List ℕ)) where
   abbrev t : Table
   t = steps n cells
 
-  -- The lines of a state by a set: the members come first, and of them those that have a step are kept.
-  stepsBy : ℕ → ℕ → List ℕ
-  stepsBy state set = printed (map (stepRow t names state) (keep (hasStep t state) (those (has set) 0 32)))
-
-  by-keep : (state set : ℕ) → stateLines n cells names state set ≡ stepsBy state set
-  unfolding stepsBy
-  by-keep state set = ap (λ (l : List ℕ). printed (map (stepRow t names state) l)) (those-keep (hasStep t state) (has set) 0 32)
-
   steps-lowest : (state left : ℕ) → left < 2 ^ 32 → ¬ (left ≡ 0)
-      → stepsBy state left
+      → stateLines n cells names state left
       ≡ cellText n state (nameOf names (trailingZeros 32 left)) (cellAt t state (trailingZeros 32 left))
-      ++ stepsBy state (left - 2 ^ trailingZeros 32 left)
-  unfolding stepsBy keep stepRow
+      ++ stateLines n cells names state (left - 2 ^ trailingZeros 32 left)
+  unfolding keep stepRow
   steps-lowest state left bound more =
       let s = trailingZeros 32 left in
-      rw (those-lowest 32 left (omega arith) bound, lt-ltb s 32 (low 32 left (omega arith) bound .lowest .below))
-      (go s (ltb (cellAt t state s) n) (keep (hasStep t state) (those (has (left - 2 ^ s)) 0 32)))
+      rw (those-keep (hasStep t state) (has left) 0 32, those-keep (hasStep t state) (has (left - 2 ^ s)) 0 32)
+      (rw (those-lowest 32 left (omega arith) bound, lt-ltb s 32 (low 32 left (omega arith) bound .lowest .below))
+      (go s (ltb (cellAt t state s) n) (keep (hasStep t state) (those (has (left - 2 ^ s)) 0 32))))
     where
       go : (s : ℕ) (b : Bool) (l : List ℕ) → printed (map (stepRow t names state) (cond (isSome (cond b (some (cellAt t state s)) none)) (s ∷ l) l))
           ≡ cond b (stepText state (nameOf names s) (cellAt t state s)) [] ++ printed (map (stepRow t names state) l)
@@ -110,12 +103,12 @@ module _ (n : ℕ) (cells : List ℕ) (names : List (List ℕ)) where
       → stateLines n cells names state left ≡ cellText n state (nameOf names s) (getD cells (first + s) 0) ++ stateLines n cells names state left′
   steps-next state first left s f bound more k e q left′ g =
       let below : trailingZeros 32 left < 32 = low 32 left (omega arith) bound .lowest .below in
-      rw (by-keep state left, by-keep state left′, f, q, g, any-default cells (state * 32 + trailingZeros 32 left) 0 65535 (omega arith))
+      rw (f, q, g, any-default cells (state * 32 + trailingZeros 32 left) 0 65535 (omega arith))
       (steps-lowest state left bound more)
 
   pub steps-none : (state left : ℕ) → left ≡ 0 → stateLines n cells names state left ≡ []
-  unfolding stepsBy keep printed
-  steps-none state left e = by-keep state left ∙ rw (e, those-empty 32)
+  unfolding keep printed
+  steps-none state left e = rw (those-keep (hasStep t state) (has left) 0 32, e, those-empty 32)
 
   -- All steps of a state, where their signals are in the set.
   steps-all : (set : ℕ) → Known n cells set → (state : ℕ) → state < n
@@ -169,8 +162,7 @@ module _ (a : Automaton) (cells : List ℕ) (names : List (List ℕ)) where
       ap (λ (l : List ℕ). printed (map (signalRow (table a cells) names) l))
       (those-same (declared (table a cells)) (has acts) 0 32 (λ x l h. declared-has a cells x (omega arith)))
 
-  all-steps : (s n : ℕ) → stepRows (table a cells) names s n
-      ≡ stepRows (steps (a .states) cells) names s n
+  all-steps : (s n : ℕ) → stepRows (table a cells) names s n ≡ stepRows (steps (a .states) cells) names s n
   unfolding stepRows enabledSignals stepRow
   all-steps s zero = refl
   all-steps s (suc n) = rw (all-steps (suc s) n)

@@ -14,7 +14,7 @@ use Rattle.theory.specs.Locations.{LocatedIn}
 use Rattle.theory.specs.Valid.{Valid}
 use Rattle.theory.proofs.Checks.{first-part, checks-valid}
 use Rattle.theory.proofs.Locations.{one-located, reply-refuses}
-use Rattle.text.specs.Writing.{wholeText, textLength, writerChecks, writerBytes, SameWriting}
+use Rattle.text.specs.Writing.{textLength, writerChecks, writerBytes, SameWriting}
 use Rattle.text.proofs.Written.{same-texts, same-checks, enough-room, written-text}
 use Rattle.writer.specs.declared.Printed.{Printed}
 use Rattle.writer.specs.declared.Printed.the-variants as reply
@@ -65,7 +65,5 @@ module _ (t : Table) (name : List ℕ) (names : List (List ℕ)) (u : Table) (na
       let ok′ : first (writerChecks u name′ names′ (length other)) ≡ Accepted =
       sym (same-checks t name names u name′ names′ w (length other)) ∙ enough-room t name names (length bytes) (length other) ok (omega arith) in (
         rw ok′ (ap reply.Length long′),
-        (let z : take n (writerBytes u name′ names′ other) ≡ wholeText u name′ names′ = rw (← long′) (written-text u name′ names′ other ok′) in z)
-            ∙ sym (same-texts t name names u name′ names′ w valid)
-            ∙ sym (let z : take n (writerBytes t name names bytes) ≡ wholeText t name names = rw (← long) (written-text t name names bytes ok) in z),
+        written-text u name′ names′ other ok′ n long′ ∙ sym (same-texts t name names u name′ names′ w valid) ∙ sym (written-text t name names bytes ok n long),
       )

@@ -102,10 +102,8 @@ loop-again c =
 
 returns : tie.Need-returns Inv-loop μ-loop
 returns c =
-    let l = c .before .loop in
-    let s = c .before .before .before in
-    let none = steps-none (s .args .states) (s .args .cells .now) (texts (s .args .names .now)) (s .args .state) (l .left) (c .loop-test .left) in
-    (counted-all _ _ _ (l .inv .4) none, omega (arith, l .inv .3, s .fits .signals .fits))
+    let i = c .before .loop .inv in
+    (counted-all _ _ _ (i .4) (search (steps-none, needs)), omega (arith, i .3, c .before .before .before .fits .signals .fits))
 
 pub state-lines-spec : {M : Type 1} → statement M
 state-lines-spec =

@@ -79,10 +79,7 @@ same-length : tie.Need-same-length Inv-loop μ-loop
 same-length c = search needs
 
 returns : tie.Need-returns Inv-loop μ-loop
-returns c =
-    let l = c .before .loop in
-    let a = c .before .before .before .before .args in
-    left-none _ _ _ _ _ _ (l .inv .2) (steps-none (a .states) (a .cells .now) (texts (a .names .now)) (a .state) (l .left) (c .loop-test .left))
+returns c = left-none _ _ _ _ _ _ (c .before .loop .inv .2) (search (steps-none, needs))
 
 pub state-lines-spec : {M : Type 1} → statement M
 state-lines-spec =

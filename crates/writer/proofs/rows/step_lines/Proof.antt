@@ -49,10 +49,7 @@ same-length : tie.Need-same-length Inv-loop μ-loop
 same-length c = search needs
 
 returns : tie.Need-returns Inv-loop μ-loop
-returns c =
-    let l = c .before .loop in
-    let a = c .before .before .before .before .before .args in
-    left-none _ _ _ _ _ _ (l .inv .2) (rows-none (a .a .states) (a .cells .now) (texts (a .names .now)) (l .s) (omega arith))
+returns c = left-none _ _ _ _ _ _ (c .before .loop .inv .2) (search (rows-none, needs))
 
 pub step-lines-spec : {M : Type 1} → statement M
 step-lines-spec =
