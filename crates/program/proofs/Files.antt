@@ -9,14 +9,10 @@ use Rattle.files.specs.declared.File.{File}
 use Rattle.files.specs.declared.File.the-variants.{Bytes, Unreadable}
 use Rattle.printout.specs.Lines.{refusalText}
 use Rattle.report.specs.Report.{Buffers, reportText, reportBuffers}
+use Rattle.report.proofs.Whole.{Ends}
 use Rattle.program.specs.Run.{programText, programBuffers}
 
--- A text that was put, with a limit to where it ends, and what is left in the four buffers.
-abbrev Ends : List ℕ → ℕ → List ℕ → List ℕ → Buffers → Buffers → Type 0
-Ends bytes end bytes′ text left buffers =
-    (end ≡ after (length bytes) 0 text) × ((bytes′ ≡ stored bytes 0 text) × ((left ≡ buffers) × (end ≤ 65608)))
-
--- What a refusal's line gives: it is short.
+-- The line of 24, which is short.
 abbrev Line : ℕ → List ℕ → ℕ → List ℕ → Type 0
 Line file bytes end bytes′ = (end ≡ after (length bytes) 0 (refusalText file 24 0)) × ((bytes′ ≡ stored bytes 0 (refusalText file 24 0)) × (end ≤ 26))
 

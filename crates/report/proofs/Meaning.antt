@@ -274,7 +274,7 @@ module _ (m p cm cp cells flags : List ℕ) where
         reportBuffers m p cm cp cells flags
         ≡ (component .cells, specification .cells, synthesis a b .cells ++ drop (n * 32) cells, synthesis a b .flags ++ drop n flags))
 
-  -- A report that is no such line.
+  -- A report that is not the line of a refusal leaves the tables read and the maker's result.
   pub result-leaves : ((file number line : ℕ) → text ≡ refusalText file number line → ⊥) → Done
   unfolding reportText reportBuffers
   result-leaves h =

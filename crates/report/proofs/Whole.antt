@@ -120,11 +120,15 @@ joint-tables : (j : Joint) (a b : Automaton) → togetherReply j ≡ together.Ta
 joint-tables (both x y) a b e = record { first = x; second = y; are = refl; header = cc; header′ = cc }
 joint-tables (neither s) a b e = absurd (let z : _≡_ {A = ℕ} 0 1 = cc in omega arith)
 
--- The contract of the call, with what is left in the four buffers.
+-- A text that was put, with a limit to where it ends, and what is left in the four buffers.
+abbrev pub Ends : (bytes : List ℕ) (end : ℕ) (bytes′ text : List ℕ) (left buffers : Buffers) → Type 0
+Ends bytes end bytes′ text left buffers =
+    (end ≡ after (length bytes) 0 text) × ((bytes′ ≡ stored bytes 0 text) × ((left ≡ buffers) × (end ≤ 65608)))
+
+-- The contract of the call.
 abbrev Reports : (m p cm cp cells flags bytes : List ℕ) (end : ℕ) (bytes′ : List ℕ) → Buffers → Type 0
 Reports m p cm cp cells flags bytes end bytes′ left =
-    (end ≡ after (length bytes) 0 (reportText m p (length cm) (length cp) (length cells) (length flags)))
-    × ((bytes′ ≡ stored bytes 0 (reportText m p (length cm) (length cp) (length cells) (length flags))) × ((left ≡ reportBuffers m p cm cp cells flags) × (end ≤ 65608)))
+    Ends bytes end bytes′ (reportText m p (length cm) (length cp) (length cells) (length flags)) left (reportBuffers m p cm cp cells flags)
 
 reports : (m p cm cp cells flags bytes : List ℕ) (end : ℕ) (bytes′ : List ℕ) (left : Buffers) → Puts bytes 0 (reportText m p (length cm) (length cp) (length cells) (length flags)) end bytes′
     → left ≡ reportBuffers m p cm cp cells flags → Reports m p cm cp cells flags bytes end bytes′ left
