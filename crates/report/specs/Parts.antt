@@ -28,7 +28,7 @@ isRefused c = unlessRefused c (λ r. true) false
 abbrev pub answerText : Checked → List ℕ → List ℕ
 answerText c text = unlessRefused c (λ r. refusalText (r .table) (r .number) 0) text
 
--- The answer stands from the first byte on and ends at `end`; bytes past it stay.
+-- The answer stands from the first byte on and ends at `end`, and bytes past it stay; `refused` says whether it is the line of a refusal.
 pub record Answers (c : Checked) (text bytes : List ℕ) (refused : Bool) (end : ℕ) (bytes′ : List ℕ) : Type 0 where
   pub refuses : refused ≡ isRefused c
   pub ends : end ≡ after (length bytes) 0 (answerText c text)

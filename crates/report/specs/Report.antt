@@ -73,7 +73,7 @@ reportText m p cm cp cells flags =
 abbrev pub Buffers : Type 0
 Buffers = List ℕ × List ℕ × List ℕ × List ℕ
 
--- What is left in them: after a refusal two tables without steps, and the result's buffers as they were; else the tables as read, and the result's
+-- What is left in the four buffers: after a refusal two tables without steps, and the result's buffers as they were; else the tables as read, and the result's
 -- buffers, which begin with it.
 unfoldable pub reportBuffers : List ℕ → List ℕ → (cm cp cells flags : List ℕ) → Buffers
 reportBuffers m p cm cp cells flags =

@@ -63,7 +63,7 @@ module _ (t : Table) (name : List ℕ) (names final : List (List ℕ)) (w : Writ
       let a : k .1 ≡ j .1 = number-apart t name names final w n (k .1) (j .1) (g .1) (h .1) (omega arith) in
       λ i. (s i, a i)
 
-  -- The turn of a step tells it.
+  -- Two steps never have the same turn.
   turn-apart : (s a : ℕ) → a < 32 → (k : Move) → Good t k → turn k ≡ s * 32 + a → k ≡ (s, a)
   turn-apart s a h k g e =
       let l : k .1 < 32 = table-narrow t (k .1) (g .1) in

@@ -50,12 +50,13 @@ pub example-text : wholeText example (ascii "sequencer") exampleNames ≡ exampl
 unfolding ascii digitsOf decimal tabbed printed those signals tableRow signalRow stepRow stepRows enabledSignals wholeText
 example-text = refl
 
--- The same with the steps of state 0 in another order: by name, inputs first, from the highest signal, and the lowest signal last.
+-- The text of the example with the steps of state 0 in a given order.
 abbrev exampleIn : List ℕ → List ℕ
 exampleIn order =
     printed (tableRow example (ascii "sequencer") ∷ map (signalRow example exampleNames) (signals example)
     ++ map (stepRow example exampleNames 0) order ++ stepRows example exampleNames 1 3)
 
+-- By name, inputs first, from the highest signal, and the lowest signal last.
 abbrev otherOrders : List (List ℕ)
 otherOrders = (1 ∷ 0 ∷ 4 ∷ 3 ∷ []) ∷ (3 ∷ 0 ∷ 1 ∷ 4 ∷ []) ∷ (4 ∷ 3 ∷ 1 ∷ 0 ∷ []) ∷ (1 ∷ 3 ∷ 4 ∷ 0 ∷ []) ∷ []
 

@@ -132,7 +132,7 @@ enough-room t name names room other e h =
 
 -- ---- the lent bytes
 
--- They begin with the text, where the writer takes the call.
+-- The lent bytes begin with the text, where the writer takes the call.
 pub written-text : (t : Table) (name : List ℕ) (names : List (List ℕ)) (bytes : List ℕ) → first (writerChecks t name names (length bytes)) ≡ Accepted
     → (n : ℕ) → textLength t name names ≡ n → take n (writerBytes t name names bytes) ≡ wholeText t name names
 unfolding writerBytes textLength

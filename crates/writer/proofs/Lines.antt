@@ -56,7 +56,7 @@ module _ (d : List ℕ) (at n state : ℕ) (cell : ℕ) where
 
 -- ---- steps
 
--- The same entry as code has it: the cell is read at the row's first one, and the names are lent.
+-- That a step's signal has an entry, in the form that code asks for: the cell is read at the row's first one, and the names are lent.
 pub entry-lent : (n : ℕ) (cells : List ℕ) (names : List (RefT (List ℕ))) → Writable n cells (texts names)
     → (state first a : ℕ) → first ≡ state * 32 → state < n → a < 32 → getD cells (first + a) 0 < n → a < length names
 entry-lent n cells names w state first a e h k c =
