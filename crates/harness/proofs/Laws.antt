@@ -1,13 +1,15 @@
--- A looked-up name in the one record.
-use mathlib.Core.Path.{_≡_, _∙_}
-use mathlib.Core.Bool.{false}
+-- A looked-up name in the one record, and what was read.
+use mathlib.Core.Path.{_≡_, ap, _∙_}
 use mathlib.Core.List.{List}
 use Prim.Native.Nat.{ℕ}
-use lib.ListN.{length}
+use Rattle.emit.specs.Buffer.{stored}
 use Rattle.replies.specs.declared.Reply.{Reply}
-use Rattle.replies.specs.Replies.{bareReply, named}
+use Rattle.replies.specs.Replies.{named}
 
--- The looked-up name, of which the code has its own two replies.
-pub name-told : (number n : ℕ) (name s : List ℕ) (x : Reply) → n ≡ number → s ≡ name
-    → x ≡ bareReply n 0 0 false (length s) → x ≡ named number name
-name-told number n name s x e u v = v ∙ rw (e, u)
+-- The looked-up name s, of which the code has its own number.
+module _ (name s : List ℕ) (found : s ≡ name) where
+  pub name-told : (number n : ℕ) (x : Reply) → n ≡ number → x ≡ named n s → x ≡ named number name
+  name-told number n x e v = v ∙ rw (e, found)
+
+  pub name-put : (d b : List ℕ) → b ≡ stored d 0 s → b ≡ stored d 0 name
+  name-put d b v = v ∙ ap (stored d 0) found

@@ -2,6 +2,7 @@
 ghost use mathlib.Core.Path.{_≡_};
 ghost use Prim.Native.Nat.{_≤_};
 ghost use lib.ListN.{length};
+ghost use Rattle.text.specs.declared.Spelling.the-variants.{Exact, Folded};
 ghost use Rattle.text.specs.Reading.{readAlone, readBoth, cellsAlone, cellsFirst, cellsSecond};
 ghost use Rattle.text.specs.Lookup.{lookup, lookupNumber, lookupAlone, lookupNumberAlone};
 ghost use Rattle.text.specs.Writing.{writerBytes};
@@ -9,6 +10,7 @@ ghost use Rattle.reader.specs.Replies.{aloneReply, togetherReply};
 ghost use Rattle.emit.specs.Buffer.{after, stored};
 ghost use Rattle.names.specs.Names.{texts};
 ghost use Rattle.writer.specs.Replies.{writerReply};
+ghost use Rattle.listing.specs.Listing.{listingText};
 ghost use Rattle.report.specs.Report.{reportText, reportBuffers};
 ghost use Rattle.replies.specs.Replies.{aloneRead, togetherRead, named, written};
 ghost use Rattle.harness.specs.Tables.{tableOf};
@@ -18,8 +20,8 @@ use theory::Automaton;
 // A text read alone; the table's cells are in the lent buffer.
 #[no_mangle]
 pub extern "C" fn harness_read_alone(m: &[u8], cells: &mut [u16]) -> Reply
-    ensures { λ r. ⌜ r ≡ aloneRead (aloneReply (readAlone (length (now (cells .entry))) (now (m .entry)))) ⌝ }
-    ensures { λ r. ⌜ now (cells .exit) ≡ cellsAlone (length (now (cells .entry))) (readAlone (length (now (cells .entry))) (now (m .entry))) ⌝ }
+    ensures { λ r. ⌜ r ≡ aloneRead (aloneReply (readAlone Folded (length (now (cells .entry))) (now (m .entry)))) ⌝ }
+    ensures { λ r. ⌜ now (cells .exit) ≡ cellsAlone (length (now (cells .entry))) (readAlone Folded (length (now (cells .entry))) (now (m .entry))) ⌝ }
 {
     replies::read_alone(reader::read_alone(m, cells))
 }
@@ -32,33 +34,101 @@ pub extern "C" fn harness_read_together<'a>(
     cm: &mut [u16],
     cp: &mut [u16],
 ) -> Reply
-    ensures { λ r. ⌜ r ≡ togetherRead (togetherReply (readBoth (length (now (cm .entry))) (now (m .entry)) (length (now (cp .entry))) (now (p .entry)))) ⌝ }
-    ensures { λ r. ⌜ now (cm .exit) ≡ cellsFirst (length (now (cm .entry))) (readBoth (length (now (cm .entry))) (now (m .entry)) (length (now (cp .entry))) (now (p .entry))) ⌝ }
-    ensures { λ r. ⌜ now (cp .exit) ≡ cellsSecond (length (now (cp .entry))) (readBoth (length (now (cm .entry))) (now (m .entry)) (length (now (cp .entry))) (now (p .entry))) ⌝ }
+    ensures { λ r. ⌜ r ≡ togetherRead (togetherReply (readBoth Folded (length (now (cm .entry))) (now (m .entry)) (length (now (cp .entry))) (now (p .entry)))) ⌝ }
+    ensures { λ r. ⌜ now (cm .exit) ≡ cellsFirst (length (now (cm .entry))) (readBoth Folded (length (now (cm .entry))) (now (m .entry)) (length (now (cp .entry))) (now (p .entry))) ⌝ }
+    ensures { λ r. ⌜ now (cp .exit) ≡ cellsSecond (length (now (cp .entry))) (readBoth Folded (length (now (cm .entry))) (now (m .entry)) (length (now (cp .entry))) (now (p .entry))) ⌝ }
 {
     replies::read_together(reader::read_together(m, p, cm, cp))
+}
+
+// A stored text read alone, by document 01's rule.
+#[no_mangle]
+pub extern "C" fn harness_read_archive_alone(m: &[u8], cells: &mut [u16]) -> Reply
+    ensures { λ r. ⌜ r ≡ aloneRead (aloneReply (readAlone Exact (length (now (cells .entry))) (now (m .entry)))) ⌝ }
+    ensures { λ r. ⌜ now (cells .exit) ≡ cellsAlone (length (now (cells .entry))) (readAlone Exact (length (now (cells .entry))) (now (m .entry))) ⌝ }
+{
+    replies::read_alone(reader::read_archive_alone(m, cells))
+}
+
+// A stored module's and a stored plan's text read together, by document 01's rule.
+#[no_mangle]
+pub extern "C" fn harness_read_archive_together<'a>(
+    m: &'a [u8],
+    p: &'a [u8],
+    cm: &mut [u16],
+    cp: &mut [u16],
+) -> Reply
+    ensures { λ r. ⌜ r ≡ togetherRead (togetherReply (readBoth Exact (length (now (cm .entry))) (now (m .entry)) (length (now (cp .entry))) (now (p .entry)))) ⌝ }
+    ensures { λ r. ⌜ now (cm .exit) ≡ cellsFirst (length (now (cm .entry))) (readBoth Exact (length (now (cm .entry))) (now (m .entry)) (length (now (cp .entry))) (now (p .entry))) ⌝ }
+    ensures { λ r. ⌜ now (cp .exit) ≡ cellsSecond (length (now (cp .entry))) (readBoth Exact (length (now (cm .entry))) (now (m .entry)) (length (now (cp .entry))) (now (p .entry))) ⌝ }
+{
+    replies::read_together(reader::read_archive_together(m, p, cm, cp))
+}
+
+// Puts a looked-up name into the lent buffer as far as there is room, and gives the number of the lookup's refusal.
+fn tell(name: &[u8], number: u32, out: &mut [u8]) -> Reply
+    ensures { λ r. ⌜ r ≡ named number (now (name .entry)) ⌝ }
+    ensures { λ r. ⌜ now (out .exit) ≡ stored (now (out .entry)) 0 (now (name .entry)) ⌝ }
+{
+    emit::put(out, 0, name);
+    replies::bare(number, 0, 0, false, name.len())
 }
 
 // The name of a signal in two texts read together, put into the lent buffer as far as there is room.
 #[no_mangle]
 pub extern "C" fn harness_name<'a>(m: &'a [u8], p: &'a [u8], signal: usize, out: &mut [u8]) -> Reply
-    ensures { λ r. ⌜ r ≡ named (lookupNumber (now (m .entry)) (now (p .entry)) signal) (lookup (now (m .entry)) (now (p .entry)) signal .name) ⌝ }
-    ensures { λ r. ⌜ now (out .exit) ≡ stored (now (out .entry)) 0 (lookup (now (m .entry)) (now (p .entry)) signal .name) ⌝ }
+    ensures { λ r. ⌜ r ≡ named (lookupNumber Folded (now (m .entry)) (now (p .entry)) signal) (lookup Folded (now (m .entry)) (now (p .entry)) signal .name) ⌝ }
+    ensures { λ r. ⌜ now (out .exit) ≡ stored (now (out .entry)) 0 (lookup Folded (now (m .entry)) (now (p .entry)) signal .name) ⌝ }
 {
-    let name = lookup::name(m, p, signal);
-    emit::put(out, 0, name);
-    replies::bare(lookup::number(m, p, signal), 0, 0, false, name.len())
+    tell(
+        lookup::name(m, p, signal),
+        lookup::number(m, p, signal),
+        out,
+    )
 }
 
-// The same in a text read alone.
+// The name of a signal in a text read alone, put into the lent buffer as far as there is room.
 #[no_mangle]
 pub extern "C" fn harness_name_alone(m: &[u8], signal: usize, out: &mut [u8]) -> Reply
-    ensures { λ r. ⌜ r ≡ named (lookupNumberAlone (now (m .entry)) signal) (lookupAlone (now (m .entry)) signal .name) ⌝ }
-    ensures { λ r. ⌜ now (out .exit) ≡ stored (now (out .entry)) 0 (lookupAlone (now (m .entry)) signal .name) ⌝ }
+    ensures { λ r. ⌜ r ≡ named (lookupNumberAlone Folded (now (m .entry)) signal) (lookupAlone Folded (now (m .entry)) signal .name) ⌝ }
+    ensures { λ r. ⌜ now (out .exit) ≡ stored (now (out .entry)) 0 (lookupAlone Folded (now (m .entry)) signal .name) ⌝ }
 {
-    let name = lookup::name_alone(m, signal);
-    emit::put(out, 0, name);
-    replies::bare(lookup::number_alone(m, signal), 0, 0, false, name.len())
+    tell(
+        lookup::name_alone(m, signal),
+        lookup::number_alone(m, signal),
+        out,
+    )
+}
+
+// The name of a signal in two stored texts, by the archive reading.
+#[no_mangle]
+pub extern "C" fn harness_archive_name<'a>(
+    m: &'a [u8],
+    p: &'a [u8],
+    signal: usize,
+    out: &mut [u8],
+) -> Reply
+    ensures { λ r. ⌜ r ≡ named (lookupNumber Exact (now (m .entry)) (now (p .entry)) signal) (lookup Exact (now (m .entry)) (now (p .entry)) signal .name) ⌝ }
+    ensures { λ r. ⌜ now (out .exit) ≡ stored (now (out .entry)) 0 (lookup Exact (now (m .entry)) (now (p .entry)) signal .name) ⌝ }
+{
+    tell(
+        lookup::archive_name(m, p, signal),
+        lookup::archive_number(m, p, signal),
+        out,
+    )
+}
+
+// The name of a signal in a stored text read alone, by the archive reading.
+#[no_mangle]
+pub extern "C" fn harness_archive_name_alone(m: &[u8], signal: usize, out: &mut [u8]) -> Reply
+    ensures { λ r. ⌜ r ≡ named (lookupNumberAlone Exact (now (m .entry)) signal) (lookupAlone Exact (now (m .entry)) signal .name) ⌝ }
+    ensures { λ r. ⌜ now (out .exit) ≡ stored (now (out .entry)) 0 (lookupAlone Exact (now (m .entry)) signal .name) ⌝ }
+{
+    tell(
+        lookup::archive_name_alone(m, signal),
+        lookup::archive_number_alone(m, signal),
+        out,
+    )
 }
 
 // The text of a table, in the lent buffer.
@@ -102,4 +172,22 @@ pub extern "C" fn harness_report<'a>(
     ensures { λ r. ⌜ r ≤ 65608 ⌝ }
 {
     report::report(m, p, cm, cp, cells, flags, out)
+}
+
+// What the lister of clashes prints for two texts, in the lent buffer; returns where it ends.
+#[no_mangle]
+pub extern "C" fn harness_list<'a>(
+    m: &'a [u8],
+    p: &'a [u8],
+    cm: &mut [u16],
+    cp: &mut [u16],
+    out: &mut [u8],
+) -> usize
+    ensures { λ r. ⌜ r ≡ after (length (now (out .entry))) 0 (listingText (now (m .entry)) (now (p .entry)) (length (now (cm .entry))) (length (now (cp .entry)))) ⌝ }
+    ensures { λ r. ⌜ now (out .exit) ≡ stored (now (out .entry)) 0 (listingText (now (m .entry)) (now (p .entry)) (length (now (cm .entry))) (length (now (cp .entry)))) ⌝ }
+    ensures { λ r. ⌜ now (cm .exit) ≡ cellsFirst (length (now (cm .entry))) (readBoth Exact (length (now (cm .entry))) (now (m .entry)) (length (now (cp .entry))) (now (p .entry))) ⌝ }
+    ensures { λ r. ⌜ now (cp .exit) ≡ cellsSecond (length (now (cp .entry))) (readBoth Exact (length (now (cm .entry))) (now (m .entry)) (length (now (cp .entry))) (now (p .entry))) ⌝ }
+    ensures { λ r. ⌜ r ≤ 768 ⌝ }
+{
+    listing::list(m, p, cm, cp, out)
 }

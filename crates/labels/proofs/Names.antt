@@ -5,6 +5,7 @@ use Prim.Native.Nat.{ℕ}
 use lib.ListN.{length}
 use Rattle.theory.specs.Bounded.{tabulate}
 use Rattle.theory.specs.Table.{Table}
+use Rattle.text.specs.declared.Spelling.the-variants.{Folded}
 use Rattle.text.specs.Lookup.{lookup}
 use Rattle.text.specs.Writing.{writerBytes}
 use Rattle.writer.specs.declared.Printed.{Printed}
@@ -13,14 +14,14 @@ use Rattle.labels.specs.Names.{sequencerWord, signalNames}
 
 -- One for each of the 32 numbers.
 module _ (m p n0 n1 n2 n3 n4 n5 n6 n7 n8 n9 n10 n11 n12 n13 n14 n15 n16 n17 n18 n19 n20 n21 n22 n23 n24 n25 n26 n27 n28 n29 n30 n31 : List ℕ)
-    (e0 : n0 ≡ lookup m p 0 .name) (e1 : n1 ≡ lookup m p 1 .name) (e2 : n2 ≡ lookup m p 2 .name) (e3 : n3 ≡ lookup m p 3 .name)
-    (e4 : n4 ≡ lookup m p 4 .name) (e5 : n5 ≡ lookup m p 5 .name) (e6 : n6 ≡ lookup m p 6 .name) (e7 : n7 ≡ lookup m p 7 .name)
-    (e8 : n8 ≡ lookup m p 8 .name) (e9 : n9 ≡ lookup m p 9 .name) (e10 : n10 ≡ lookup m p 10 .name) (e11 : n11 ≡ lookup m p 11 .name)
-    (e12 : n12 ≡ lookup m p 12 .name) (e13 : n13 ≡ lookup m p 13 .name) (e14 : n14 ≡ lookup m p 14 .name) (e15 : n15 ≡ lookup m p 15 .name)
-    (e16 : n16 ≡ lookup m p 16 .name) (e17 : n17 ≡ lookup m p 17 .name) (e18 : n18 ≡ lookup m p 18 .name) (e19 : n19 ≡ lookup m p 19 .name)
-    (e20 : n20 ≡ lookup m p 20 .name) (e21 : n21 ≡ lookup m p 21 .name) (e22 : n22 ≡ lookup m p 22 .name) (e23 : n23 ≡ lookup m p 23 .name)
-    (e24 : n24 ≡ lookup m p 24 .name) (e25 : n25 ≡ lookup m p 25 .name) (e26 : n26 ≡ lookup m p 26 .name) (e27 : n27 ≡ lookup m p 27 .name)
-    (e28 : n28 ≡ lookup m p 28 .name) (e29 : n29 ≡ lookup m p 29 .name) (e30 : n30 ≡ lookup m p 30 .name) (e31 : n31 ≡ lookup m p 31 .name) where
+    (e0 : n0 ≡ lookup Folded m p 0 .name) (e1 : n1 ≡ lookup Folded m p 1 .name) (e2 : n2 ≡ lookup Folded m p 2 .name) (e3 : n3 ≡ lookup Folded m p 3 .name)
+    (e4 : n4 ≡ lookup Folded m p 4 .name) (e5 : n5 ≡ lookup Folded m p 5 .name) (e6 : n6 ≡ lookup Folded m p 6 .name) (e7 : n7 ≡ lookup Folded m p 7 .name)
+    (e8 : n8 ≡ lookup Folded m p 8 .name) (e9 : n9 ≡ lookup Folded m p 9 .name) (e10 : n10 ≡ lookup Folded m p 10 .name) (e11 : n11 ≡ lookup Folded m p 11 .name)
+    (e12 : n12 ≡ lookup Folded m p 12 .name) (e13 : n13 ≡ lookup Folded m p 13 .name) (e14 : n14 ≡ lookup Folded m p 14 .name) (e15 : n15 ≡ lookup Folded m p 15 .name)
+    (e16 : n16 ≡ lookup Folded m p 16 .name) (e17 : n17 ≡ lookup Folded m p 17 .name) (e18 : n18 ≡ lookup Folded m p 18 .name) (e19 : n19 ≡ lookup Folded m p 19 .name)
+    (e20 : n20 ≡ lookup Folded m p 20 .name) (e21 : n21 ≡ lookup Folded m p 21 .name) (e22 : n22 ≡ lookup Folded m p 22 .name) (e23 : n23 ≡ lookup Folded m p 23 .name)
+    (e24 : n24 ≡ lookup Folded m p 24 .name) (e25 : n25 ≡ lookup Folded m p 25 .name) (e26 : n26 ≡ lookup Folded m p 26 .name) (e27 : n27 ≡ lookup Folded m p 27 .name)
+    (e28 : n28 ≡ lookup Folded m p 28 .name) (e29 : n29 ≡ lookup Folded m p 29 .name) (e30 : n30 ≡ lookup Folded m p 30 .name) (e31 : n31 ≡ lookup Folded m p 31 .name) where
   abbrev lent : List (List ℕ)
   lent = n0 ∷ n1 ∷ n2 ∷ n3 ∷ n4 ∷ n5 ∷ n6 ∷ n7 ∷ n8 ∷ n9 ∷ n10 ∷ n11 ∷ n12 ∷ n13 ∷ n14 ∷ n15 ∷ n16 ∷ n17 ∷ n18 ∷ n19 ∷ n20 ∷ n21 ∷ n22 ∷ n23 ∷ n24 ∷ n25 ∷ n26 ∷ n27 ∷ n28 ∷ n29 ∷ n30 ∷ n31 ∷ []
 

@@ -2,6 +2,7 @@
 use mathlib.Core.List.{List, [], _∷_}
 use Prim.Native.Nat.{ℕ}
 use Rattle.theory.specs.Bounded.{tabulate}
+use Rattle.text.specs.declared.Spelling.the-variants.{Folded}
 use Rattle.text.specs.Lookup.{lookup}
 
 -- `sequencer`.
@@ -10,4 +11,4 @@ sequencerWord = 115 ∷ 101 ∷ 113 ∷ 117 ∷ 101 ∷ 110 ∷ 99 ∷ 101 ∷ 1
 
 -- Signals have the names that the two texts gave them.
 unfoldable pub signalNames : List ℕ → List ℕ → List (List ℕ)
-signalNames m p = tabulate (λ a. lookup m p a .name) 0 32
+signalNames m p = tabulate (λ a. lookup Folded m p a .name) 0 32

@@ -99,7 +99,7 @@ fn follow(call: &[u8], signal: usize) {
 // Reads the first bytes of a text that declares 33 signals.
 fn read(call: &[u8], bytes: usize) {
     let text =
-        b"table\tt\t1\t0\nin\ta\nin\tb\nin\tc\nin\td\nin\te\nin\tf\nin\tg\nin\th\nin\ti\nin\tj\nin\tk\nin\tl\nin\tm\nin\tn\nin\to\nin\tp\nin\tq\nin\tr\nin\ts\nin\tt\nin\tu\nin\tv\nin\tw\nin\tx\nin\ty\nin\tz\nin\tA\nin\tB\nin\tC\nin\tD\nin\tE\nin\tF\nin\tG\n";
+        b"table\tt\t1\t0\nin\ta\nin\tb\nin\tc\nin\td\nin\te\nin\tf\nin\tg\nin\th\nin\ti\nin\tj\nin\tk\nin\tl\nin\tm\nin\tn\nin\to\nin\tp\nin\tq\nin\tr\nin\ts\nin\tt\nin\tu\nin\tv\nin\tw\nin\tx\nin\ty\nin\tz\nin\t0\nin\t1\nin\t2\nin\t3\nin\t4\nin\t5\nin\t6\n";
     let mut cells = [7u16; 32];
     match reader::read_alone(scan::before(text, bytes), &mut cells) {
         Alone::Table(_) => report(call, 0),

@@ -11,7 +11,7 @@ use lib.ListN.{length, take, drop, getD, length-append, take-append-drop}
 use lib.Seq.{take-suc, split-at, length-take-le, take-append-seam, getD-take}
 use borrow.Author.Tests.{ne-eqb, eq-eqb, le-leb, lt-ltb, le-ltb, not-false}
 use Rattle.text.specs.declared.Place.{Place}
-use Rattle.text.specs.Fields.{split, upto, same, all, nameByte, nameOk, digitByte, valueFrom, value, numberOk}
+use Rattle.text.specs.Fields.{split, upto, matches, same, all, nameByte, nameOk, digitByte, valueFrom, value, numberOk}
 use Rattle.text.specs.Lines.{step, refused, stepWord, takesStep, stepLine, byKind, parse}
 use Rattle.text.proofs.Decimal.{all-append, value-append}
 use Rattle.text.proofs.Names.{same-eq}
@@ -148,7 +148,7 @@ module _ (f n t : List ℕ) (df : all digitByte f ≡ true) (dn : all nameByte n
 
   says : nameOk n ≡ true → numberOk f ≡ true → numberOk t ≡ true → (p : Place) → takesStep p ≡ true
       → parse p (stepText f n t) ≡ step (value f) n (value t)
-  unfolding parse byKind stepLine same
+  unfolding parse byKind stepLine matches
   says gn gf gt p h = rw (fields, h, gn, gf, gt)
 
 before-byte : (b : ℕ) (s : List ℕ) (w : ℕ) → w < length s → getD s w 0 ≡ b → s ≡ take w s ++ b ∷ drop (w + 1) s

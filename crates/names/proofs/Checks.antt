@@ -16,6 +16,8 @@ use Rattle.theory.specs.Checks.{first, refuse, declared}
 use Rattle.theory.proofs.Bounded.{any-cong}
 use Rattle.theory.proofs.Checks.{passed-first}
 use Rattle.theory.proofs.Sets.{member-or, has-member}
+use Rattle.text.specs.declared.Spelling.{Spelling}
+use Rattle.text.specs.declared.Spelling.the-variants.{Exact, Folded}
 use Rattle.text.specs.Fields.{nameOk}
 use Rattle.text.specs.Writing.{nameOf, misnamed, ambiguous}
 use Rattle.text.proofs.Entries.{is-false}
@@ -37,9 +39,9 @@ module _ (a : Automaton) (name : List ℕ) (names : List (List ℕ)) where
   unfolding anyOf
   all-misnamed = any-cong 32 _ _ (λ x h. rw (declared-has a [] x h))
 
-  all-repeated : repeated acts names ≡ ambiguous t name names
+  all-repeated : (c : Spelling) → repeated c acts names ≡ ambiguous t name names c
   unfolding repeated
-  all-repeated = any-cong 32 _ _ (λ x h. any-cong x _ _ (λ y k. rw (declared-has a [] x h, declared-has a [] y (omega arith))))
+  all-repeated c = any-cong 32 _ _ (λ x h. any-cong x _ _ (λ y k. rw (declared-has a [] x h, declared-has a [] y (omega arith))))
 
   module _ (p : Bool) (named : p ≡ nameOk name) where
     pub names-table : not p ≡ true → (r : Checked) → r ≡ refuse 16 0 → r ≡ first (nameChecks a name names)
@@ -51,14 +53,19 @@ module _ (a : Automaton) (name : List ℕ) (names : List (List ℕ)) where
       unfolding first nameChecks
       names-signals f r h = rw (← named, e, ← all-misnamed, ← all, ← misnames, f) h
 
-      module _ (f : q ≡ false) (s : Bool) (repeats : s ≡ repeated set names) where
+      module _ (f : q ≡ false) (s : Bool) (repeats : s ≡ repeated Exact set names) where
         pub names-repeated : s ≡ true → (r : Checked) → r ≡ refuse 18 0 → r ≡ first (nameChecks a name names)
         unfolding first nameChecks
-        names-repeated g r h = rw (← named, e, ← all-misnamed, ← all-repeated, ← all, ← misnames, f, ← repeats, g) h
+        names-repeated g r h = rw (← named, e, ← all-misnamed, ← all-repeated Exact, ← all, ← misnames, f, ← repeats, g) h
 
-        pub names-pass : s ≡ false → Accepted ≡ first (nameChecks a name names)
-        unfolding first nameChecks
-        names-pass g = rw (← named, e, ← all-misnamed, ← all-repeated, ← all, ← misnames, f, ← repeats, g)
+        module _ (g : s ≡ false) (u : Bool) (clashes : u ≡ repeated Folded set names) where
+          pub names-clash : u ≡ true → (r : Checked) → r ≡ refuse 28 0 → r ≡ first (nameChecks a name names)
+          unfolding first nameChecks
+          names-clash i r h = rw (← named, e, ← all-misnamed, ← all-repeated Exact, ← all-repeated Folded, ← all, ← misnames, f, ← repeats, g, ← clashes, i) h
+
+          pub names-pass : u ≡ false → Accepted ≡ first (nameChecks a name names)
+          unfolding first nameChecks
+          names-pass i = rw (← named, e, ← all-misnamed, ← all-repeated Exact, ← all-repeated Folded, ← all, ← misnames, f, ← repeats, g, ← clashes, i)
 
 -- Names that pass are there, and short; so is the table's.
 module _ (a : Automaton) (name : List ℕ) (names : List (List ℕ)) (e : first (nameChecks a name names) ≡ Accepted) where

@@ -16,7 +16,8 @@ use Rattle.theory.specs.Sets.{has}
 use Rattle.theory.proofs.Bounded.{any-at, at-any}
 use Rattle.theory.proofs.Tests.{or-cases, or-left, or-right, and-left, and-right, and-both, same-test}
 use Rattle.sets.proofs.Visit.{low, has-none}
-use Rattle.text.specs.Fields.{same, all, nameByte, nameOk}
+use Rattle.text.specs.declared.Spelling.{Spelling}
+use Rattle.text.specs.Fields.{matches, all, nameByte, nameOk}
 use Rattle.text.specs.Writing.{nameOf}
 use Rattle.text.proofs.Entries.{is-false}
 use Rattle.names.specs.Names.{texts, anyOf, repeated, Named}
@@ -104,22 +105,22 @@ module _ (l : List (RefT (List ℕ))) (i : ℕ) (d : RefT (List ℕ)) (h : i < l
   pub bad-told : r ≡ nameOk (now (getD l i d)) → not r ≡ b → not (nameOk (nameOf (texts l) i)) ≡ b
   bad-told e f = ap (λ (x : List ℕ). not (nameOk x)) (sym (name-lent l i d h)) ∙ ap not (sym e) ∙ f
 
-  pub same-told : (name : List ℕ) → r ≡ same (now (getD l i d)) name → r ≡ b → same (nameOf (texts l) i) name ≡ b
-  same-told name e f = ap (λ (x : List ℕ). same x name) (sym (name-lent l i d h)) ∙ sym e ∙ f
+  pub match-told : (c : Spelling) (name : List ℕ) → r ≡ matches c (now (getD l i d)) name → r ≡ b → matches c (nameOf (texts l) i) name ≡ b
+  match-told c name e f = ap (λ (x : List ℕ). matches c x name) (sym (name-lent l i d h)) ∙ sym e ∙ f
 
--- ---- equal names
+-- ---- names that match
 
-module _ (names : List (List ℕ)) where
-  abbrev equal : ℕ → ℕ → Bool
-  equal a b = same (nameOf names a) (nameOf names b)
+module _ (c : Spelling) (names : List (List ℕ)) where
+  abbrev alike : ℕ → ℕ → Bool
+  alike a b = matches c (nameOf names a) (nameOf names b)
 
   abbrev pair : ℕ → ℕ → ℕ → Bool
-  pair set a b = (has set a && has set b) && equal a b
+  pair set a b = (has set a && has set b) && alike a b
 
-  found : (set a b : ℕ) → a < 32 → b < a → T (has set a) → T (has set b) → T (equal a b) → T (repeated set names)
+  found : (set a b : ℕ) → a < 32 → b < a → T (has set a) → T (has set b) → T (alike a b) → T (repeated c set names)
   unfolding repeated
   found set a b l m x y z =
-      at-any 32 (λ a. any a (pair set a)) a l (at-any a (pair set a) b m (and-both (has set a && has set b) (equal a b) (and-both (has set a) (has set b) x y) z))
+      at-any 32 (λ a. any a (pair set a)) a l (at-any a (pair set a) b m (and-both (has set a && has set b) (alike a b) (and-both (has set a) (has set b) x y) z))
 
   record Found (set : ℕ) : Type 0 where
     a : ℕ
@@ -128,14 +129,14 @@ module _ (names : List (List ℕ)) where
     below : b < a
     first : T (has set a)
     second : T (has set b)
-    same-name : T (equal a b)
+    match : T (alike a b)
 
-  find : (set : ℕ) → T (repeated set names) → Found set
+  find : (set : ℕ) → T (repeated c set names) → Found set
   unfolding repeated
   find set h =
       let (a, l, u) = any-at 32 (λ a. any a (pair set a)) h in
       let (b, m, v) = any-at a (pair set a) u in
-      let both : T (has set a && has set b) = and-left (has set a && has set b) (equal a b) v in
+      let both : T (has set a && has set b) = and-left (has set a && has set b) (alike a b) v in
       record {
         a = a;
         b = b;
@@ -143,7 +144,7 @@ module _ (names : List (List ℕ)) where
         below = m;
         first = and-left (has set a) (has set b) both;
         second = and-right (has set a) (has set b) both;
-        same-name = and-right (has set a && has set b) (equal a b) v;
+        match = and-right (has set a && has set b) (alike a b) v;
       }
 
   module _ (s : ℕ) (bound : s < 2 ^ 32) (some : 0 < s) where
@@ -153,52 +154,52 @@ module _ (names : List (List ℕ)) where
     abbrev rest : ℕ
     rest = s - 2 ^ t
 
-    -- The lowest member has the name of another, or two others have one name.
-    repeated-lowest : repeated s names ≡ (anyOf rest (λ a. equal a t) || repeated rest names)
+    -- The name of the lowest member matches that of another, or those of two others match.
+    repeated-lowest : repeated c s names ≡ (anyOf rest (λ a. alike a t) || repeated c rest names)
     unfolding anyOf
     repeated-lowest = same-test forth back
       where
-        forth : T (repeated s names) → T (anyOf rest (λ a. equal a t) || repeated rest names)
+        forth : T (repeated c s names) → T (anyOf rest (λ a. alike a t) || repeated c rest names)
         forth h =
             let p = find s h in
             let above : t < p .a = omega (arith, low 32 s some bound .lowest .least (p .b) (p .second), p .below) in
             let higher : T (has rest (p .a)) = to-rest 32 s some bound (p .a) (p .first) (λ e. omega arith) in
             elim (ℕ-discrete (p .b) t) [
               | yes e ↦
-                  or-left (anyOf rest (λ a. equal a t)) (repeated rest names)
-                  (at-any 32 (λ a. has rest a && equal a t) (p .a) (p .small)
-                  (and-both (has rest (p .a)) (equal (p .a) t) higher (subst (λ (y : ℕ). T (equal (p .a) y)) e (p .same-name))))
+                  or-left (anyOf rest (λ a. alike a t)) (repeated c rest names)
+                  (at-any 32 (λ a. has rest a && alike a t) (p .a) (p .small)
+                  (and-both (has rest (p .a)) (alike (p .a) t) higher (subst (λ (y : ℕ). T (alike (p .a) y)) e (p .match))))
               | no d ↦
-                  or-right (anyOf rest (λ a. equal a t)) (repeated rest names)
-                  (found rest (p .a) (p .b) (p .small) (p .below) higher (to-rest 32 s some bound (p .b) (p .second) d) (p .same-name))
+                  or-right (anyOf rest (λ a. alike a t)) (repeated c rest names)
+                  (found rest (p .a) (p .b) (p .small) (p .below) higher (to-rest 32 s some bound (p .b) (p .second) d) (p .match))
             ]
 
-        back : T (anyOf rest (λ a. equal a t) || repeated rest names) → T (repeated s names)
-        back h = elim (or-cases (anyOf rest (λ a. equal a t)) (repeated rest names) h) [
+        back : T (anyOf rest (λ a. alike a t) || repeated c rest names) → T (repeated c s names)
+        back h = elim (or-cases (anyOf rest (λ a. alike a t)) (repeated c rest names) h) [
           | inl u ↦
-              let (a, l, v) = any-at 32 (λ a. has rest a && equal a t) u in
-              let (x, above) = of-rest 32 s some bound a (and-left (has rest a) (equal a t) v) in
-              found s a t l above x (low 32 s some bound .lowest .passes) (and-right (has rest a) (equal a t) v)
+              let (a, l, v) = any-at 32 (λ a. has rest a && alike a t) u in
+              let (x, above) = of-rest 32 s some bound a (and-left (has rest a) (alike a t) v) in
+              found s a t l above x (low 32 s some bound .lowest .passes) (and-right (has rest a) (alike a t) v)
           | inr u ↦
               let p = find rest u in
               let member = of-rest 32 s some bound in
-              found s (p .a) (p .b) (p .small) (p .below) (member (p .a) (p .first) .0) (member (p .b) (p .second) .0) (p .same-name)
+              found s (p .a) (p .b) (p .small) (p .below) (member (p .a) (p .first) .0) (member (p .b) (p .second) .0) (p .match)
         ]
 
-  module _ (answer : Bool) (left : ℕ) (bound : left < 2 ^ 32) (i : repeated left names ≡ answer) where
+  module _ (answer : Bool) (left : ℕ) (bound : left < 2 ^ 32) (i : repeated c left names ≡ answer) where
     pub repeated-done : left ≡ 0 → false ≡ answer
-    repeated-done e = sym (is-false (repeated left names) (λ h. none (find left h))) ∙ i
+    repeated-done e = sym (is-false (repeated c left names) (λ h. none (find left h))) ∙ i
       where
         none : Found left → ⊥
         none p = let z : T (has 0 (p .a)) = subst (λ (x : ℕ). T (has x (p .a))) e (p .first) in subst T (has-none (p .a)) z
 
     module _ (some : ¬ (left ≡ 0)) (s : ℕ) (lowest : s ≡ trailingZeros 32 left) (name : List ℕ) (named : name ≡ nameOf names s) (left′ : ℕ)
-        (rested : left′ ≡ left - 2 ^ trailingZeros 32 left) (r : Bool) (taken : r ≡ anyOf left′ (λ (a : ℕ). same (nameOf names a) name)) where
-      either : (r || repeated left′ names) ≡ answer
+        (rested : left′ ≡ left - 2 ^ trailingZeros 32 left) (r : Bool) (taken : r ≡ anyOf left′ (λ (a : ℕ). matches c (nameOf names a) name)) where
+      either : (r || repeated c left′ names) ≡ answer
       either = rw (taken, named, lowest, rested) (sym (repeated-lowest left bound (omega arith)) ∙ i)
 
       pub repeated-found : r ≡ true → true ≡ answer
       repeated-found e = rw e at either
 
-      pub repeated-again : r ≡ false → repeated left′ names ≡ answer
+      pub repeated-again : r ≡ false → repeated c left′ names ≡ answer
       repeated-again e = rw e at either

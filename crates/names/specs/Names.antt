@@ -10,7 +10,9 @@ use Rattle.theory.specs.Bounded.{any}
 use Rattle.theory.specs.Sets.{has}
 use Rattle.theory.specs.Table.{table}
 use Rattle.theory.specs.Checks.{Check, unplaced}
-use Rattle.text.specs.Fields.{same, nameOk}
+use Rattle.text.specs.declared.Spelling.{Spelling}
+use Rattle.text.specs.declared.Spelling.the-variants.{Exact, Folded}
+use Rattle.text.specs.Fields.{matches, nameOk}
 use Rattle.text.specs.Writing.{nameOf, misnamed, ambiguous}
 
 -- The parts that a list of references lends.
@@ -21,17 +23,18 @@ texts l = map (λ (x : RefT (List ℕ)). now x) l
 unfoldable pub anyOf : ℕ → (ℕ → Bool) → Bool
 anyOf set f = any 32 (λ a. has set a && f a)
 
--- Two members of the set have equal names.
-unfoldable pub repeated : ℕ → List (List ℕ) → Bool
-repeated set names = any 32 (λ a. any a (λ b. (has set a && has set b) && same (nameOf names a) (nameOf names b)))
+-- The names of two members of the set match in a spelling.
+unfoldable pub repeated : Spelling → ℕ → List (List ℕ) → Bool
+repeated c set names = any 32 (λ a. any a (λ b. (has set a && has set b) && matches c (nameOf names a) (nameOf names b)))
 
 -- Every member of the set has an entry, no longer than a name may be.
 pub record Named (set : ℕ) (names : List (List ℕ)) : Type 0 where
   pub entry : (a : ℕ) → a < 32 → T (has set a) → a < length names
   pub short : (a : ℕ) → a < 32 → T (has set a) → length (nameOf names a) ≤ 16
 
--- ---- the checks: 16 of the table's name, 16 of a declared signal's name, 18 for equal signal names
+-- ---- the checks: 16 of the table's name, 16 of a declared signal's name, 18 for equal signal names, 28 for names that clash (02, S-9)
 
 unfoldable pub nameChecks : Automaton → List ℕ → List (List ℕ) → List Check
 nameChecks a name names =
-    unplaced 16 0 (not (nameOk name)) ∷ unplaced 16 0 (misnamed (table a []) name names) ∷ unplaced 18 0 (ambiguous (table a []) name names) ∷ []
+    unplaced 16 0 (not (nameOk name)) ∷ unplaced 16 0 (misnamed (table a []) name names) ∷ unplaced 18 0 (ambiguous (table a []) name names Exact)
+    ∷ unplaced 28 0 (ambiguous (table a []) name names Folded) ∷ []

@@ -1,11 +1,13 @@
-// Checks 16 and 18 of the writer (document 01) on the names it is lent. `names` has one for each action number; a missing entry is an empty name.
+// Checks of the writer on the names it is lent: 16 and 18 (document 01), 28 (document 02, S-9). `names` has one for each action number; a missing
+// entry is an empty name.
 ghost use mathlib.Core.Path.{_≡_};
 ghost use mathlib.Core.Bool.{not};
 ghost use Prim.Native.Nat.{ℕ};
 ghost use Rattle.theory.specs.Checks.{first};
-ghost use Rattle.text.specs.Fields.{same, nameOk};
+ghost use Rattle.text.specs.Fields.{matches, nameOk};
 ghost use Rattle.text.specs.Writing.{nameOf};
 ghost use Rattle.names.specs.Names.{texts, anyOf, repeated, Named, nameChecks};
+use text::Spelling;
 use theory::Automaton;
 use theory::Checked;
 
@@ -27,15 +29,15 @@ fn is_misnamed(signals: u32, names: &[&[u8]]) -> bool
     false
 }
 
-// Whether some signal has the name.
-fn is_taken(signals: u32, names: &[&[u8]], name: &[u8]) -> bool
+// Whether the name of some signal matches the given one in a spelling.
+fn is_taken(spelling: Spelling, signals: u32, names: &[&[u8]], name: &[u8]) -> bool
     requires { ⌜ Named signals (texts (now names)) ⌝ }
-    ensures { λ r. ⌜ r ≡ anyOf signals (λ (a : ℕ). same (nameOf (texts (now (names .entry))) a) (now (name .entry))) ⌝ }
+    ensures { λ r. ⌜ r ≡ anyOf signals (λ (a : ℕ). matches spelling (nameOf (texts (now (names .entry))) a) (now (name .entry))) ⌝ }
 {
     let mut left = signals;
     while left != 0 {
         let s = sets::lowest(left) as usize;
-        if scan::equal(names[s], name) {
+        if scan::matches(spelling, names[s], name) {
             return true;
         }
         left = sets::rest(left);
@@ -43,23 +45,23 @@ fn is_taken(signals: u32, names: &[&[u8]], name: &[u8]) -> bool
     false
 }
 
-// Whether two signals have equal names: each is held against those above it.
-fn is_repeated(signals: u32, names: &[&[u8]]) -> bool
+// Whether the names of two signals match in a spelling: each is held against those above it.
+fn is_repeated(spelling: Spelling, signals: u32, names: &[&[u8]]) -> bool
     requires { ⌜ Named signals (texts (now names)) ⌝ }
-    ensures { λ r. ⌜ r ≡ repeated signals (texts (now (names .entry))) ⌝ }
+    ensures { λ r. ⌜ r ≡ repeated spelling signals (texts (now (names .entry))) ⌝ }
 {
     let mut left = signals;
     while left != 0 {
         let s = sets::lowest(left) as usize;
         left = sets::rest(left);
-        if is_taken(left, names, names[s]) {
+        if is_taken(spelling, left, names, names[s]) {
             return true;
         }
     }
     false
 }
 
-// The table's name, the declared signals' names, then two of these that are equal.
+// The table's name, the declared signals' names, then two of these that are equal, then two that clash.
 pub fn check(a: Automaton, name: &[u8], names: &[&[u8]]) -> Checked
     ensures { λ r. ⌜ r ≡ first (nameChecks a (now (name .entry)) (texts (now (names .entry)))) ⌝ }
 {
@@ -70,8 +72,11 @@ pub fn check(a: Automaton, name: &[u8], names: &[&[u8]]) -> Checked
     if is_misnamed(signals, names) {
         return automaton::refuse(16, 0);
     }
-    if is_repeated(signals, names) {
+    if is_repeated(Spelling::Exact, signals, names) {
         return automaton::refuse(18, 0);
+    }
+    if is_repeated(Spelling::Folded, signals, names) {
+        return automaton::refuse(28, 0);
     }
     Checked::Accepted
 }

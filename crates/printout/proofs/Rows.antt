@@ -3,10 +3,11 @@ use mathlib.Core.Path.{_≡_, sym}
 use mathlib.Core.Bool.{Bool, true, false}
 use mathlib.Core.List.{List, [], _∷_, _++_, append-assoc}
 use Prim.Native.Nat.{ℕ}
+use Rattle.text.specs.declared.Clash.{Clash}
 use Rattle.text.specs.Writing.{decimal, tabbed, printed}
 use Rattle.emit.proofs.Buffer.{Puts, puts-then}
 use Rattle.emit.proofs.Rows.{line-two, line-four}
-use Rattle.printout.specs.Lines.{verdictWord, yesWord, noneWord, pairsWord, keptWord, roundsWord, stepsWord, endsWord, refusedWord, refusalText, figures, verdictText, figureText}
+use Rattle.printout.specs.Lines.{verdictWord, yesWord, noneWord, pairsWord, keptWord, roundsWord, stepsWord, endsWord, refusedWord, refusalText, clashText, figures, verdictText, figureText}
 
 pub refusal-put : (d : List ℕ) (at file number line : ℕ) (r₁ r₂ r₃ r₄ : ℕ) (b₁ b₂ b₃ b₄ : List ℕ)
     → Puts d at (refusedWord ++ 9 ∷ []) r₁ b₁ → Puts b₁ r₁ (decimal file ++ 9 ∷ []) r₂ b₂ → Puts b₂ r₂ (decimal number ++ 9 ∷ []) r₃ b₃
@@ -14,6 +15,12 @@ pub refusal-put : (d : List ℕ) (at file number line : ℕ) (r₁ r₂ r₃ r�
 unfolding refusalText
 refusal-put d at file number line r₁ r₂ r₃ r₄ b₁ b₂ b₃ b₄ p q v w =
     line-four d at refusedWord (decimal file) (decimal number) (decimal line) r₁ r₂ r₃ r₄ b₁ b₂ b₃ b₄ p q v w
+
+pub clash-put : (d : List ℕ) (at : ℕ) (c : Clash) (r₁ r₂ r₃ r₄ : ℕ) (b₁ b₂ b₃ b₄ : List ℕ)
+    → Puts d at (decimal (c .later .text) ++ 9 ∷ []) r₁ b₁ → Puts b₁ r₁ (decimal (c .later .line) ++ 9 ∷ []) r₂ b₂
+    → Puts b₂ r₂ (decimal (c .first .text) ++ 9 ∷ []) r₃ b₃ → Puts b₃ r₃ (decimal (c .first .line) ++ 10 ∷ []) r₄ b₄ → Puts d at (clashText c) r₄ b₄
+unfolding clashText
+clash-put d at c r₁ r₂ r₃ r₄ b₁ b₂ b₃ b₄ p q v w = line-four d at _ _ _ _ r₁ r₂ r₃ r₄ b₁ b₂ b₃ b₄ p q v w
 
 module _ (d : List ℕ) (compatible : Bool) (r r′ : ℕ) (b b′ : List ℕ) where
   pub verdict-yes : compatible ≡ true → Puts d 0 (verdictWord ++ 9 ∷ []) r b → Puts b r (yesWord ++ 10 ∷ []) r′ b′ → Puts d 0 (verdictText compatible) r′ b′

@@ -1,4 +1,4 @@
--- How long the lines are: 26 bytes at most for a refusal, 72 for the six.
+-- How long the lines are: 26 bytes at most for a refusal, 24 for a clash, 72 for the six.
 use mathlib.Core.Path.{_≡_}
 use mathlib.Core.Bool.{Bool, true, false, cond}
 use mathlib.Core.List.{List, [], _∷_, _++_}
@@ -6,10 +6,11 @@ use Prim.Native.Nat.{ℕ, zero, suc, _+_, _/_, _%_, _≤_}
 use native.Mathlib.Omega.{arith}
 use lib.Dec.{ltb}
 use lib.ListN.{length, length-append}
+use Rattle.text.specs.declared.Clash.{Clash}
 use Rattle.text.specs.Writing.{digitsOf, decimal, tabbed, printed}
 use Rattle.emit.specs.Buffer.{after, stored}
 use Rattle.emit.proofs.Buffer.{Puts}
-use Rattle.printout.specs.Lines.{verdictWord, yesWord, noneWord, pairsWord, keptWord, roundsWord, stepsWord, endsWord, refusedWord, refusalText, figures}
+use Rattle.printout.specs.Lines.{verdictWord, yesWord, noneWord, pairsWord, keptWord, roundsWord, stepsWord, endsWord, refusedWord, refusalText, clashText, figures}
 
 digits-short : (k n : ℕ) → length (digitsOf k n) ≤ k + 1
 unfolding digitsOf
@@ -43,12 +44,23 @@ none-short : length (printed []) ≤ 0
 unfolding printed
 none-short = omega arith
 
+-- A line of a field of at most k bytes and three numbers.
+four-short : (f : List ℕ) (a b c k : ℕ) → length f ≤ k → length (printed ((f ∷ decimal a ∷ decimal b ∷ decimal c ∷ []) ∷ [])) ≤ k + 19
+unfolding tabbed
+four-short f a b c k h =
+    let row = f ∷ decimal a ∷ decimal b ∷ decimal c ∷ [] in
+    let four = printed-short row [] (k + 1 + 17) 0 (tabbed-short f (decimal a) (decimal b ∷ decimal c ∷ []) k 17 h
+    (tabbed-short (decimal a) (decimal b) (decimal c ∷ []) 5 11 (decimal-short a)
+    (tabbed-short (decimal b) (decimal c) [] 5 5 (decimal-short b) (decimal-short c)))) none-short in
+    omega (arith, four)
+
 pub refusal-short : (file number line : ℕ) → length (refusalText file number line) ≤ 26
-unfolding refusalText tabbed
-refusal-short file number line =
-    printed-short _ [] 25 0 (tabbed-short refusedWord (decimal file) (decimal number ∷ decimal line ∷ []) 7 17 (omega arith)
-    (tabbed-short (decimal file) (decimal number) (decimal line ∷ []) 5 11 (decimal-short file)
-    (tabbed-short (decimal number) (decimal line) [] 5 5 (decimal-short number) (decimal-short line)))) none-short
+unfolding refusalText
+refusal-short file number line = four-short refusedWord file number line 7 (omega arith)
+
+pub clash-short : (c : Clash) → length (clashText c) ≤ 24
+unfolding clashText
+clash-short c = four-short (decimal (c .later .text)) (c .later .line) (c .first .text) (c .first .line) 5 (decimal-short (c .later .text))
 
 module _ (compatible : Bool) (pairs kept rounds steps ends : ℕ) where
   verdict-short : length (cond compatible yesWord noneWord) ≤ 4
@@ -67,6 +79,13 @@ pub within : (n at : ℕ) (s : List ℕ) → after n at s ≤ at + length s
 unfolding after
 within n at s = omega arith
 
-pub refusal-ends : (d : List ℕ) (at file number line r : ℕ) (b : List ℕ) → Puts d at (refusalText file number line) r b
-    → (r ≡ after (length d) at (refusalText file number line)) × ((b ≡ stored d at (refusalText file number line)) × (r ≤ at + 26))
-refusal-ends d at file number line r b (u, v) = (u, (v, omega (arith, within (length d) at (refusalText file number line), refusal-short file number line)))
+module _ (d : List ℕ) (at r : ℕ) (b : List ℕ) where
+  ends : (s : List ℕ) (k : ℕ) → length s ≤ k → Puts d at s r b → (r ≡ after (length d) at s) × ((b ≡ stored d at s) × (r ≤ at + k))
+  ends s k h (u, v) = (u, (v, omega (arith, within (length d) at s)))
+
+  pub refusal-ends : (file number line : ℕ) → Puts d at (refusalText file number line) r b
+      → (r ≡ after (length d) at (refusalText file number line)) × ((b ≡ stored d at (refusalText file number line)) × (r ≤ at + 26))
+  refusal-ends file number line = ends (refusalText file number line) 26 (refusal-short file number line)
+
+  pub clash-ends : (c : Clash) → Puts d at (clashText c) r b → (r ≡ after (length d) at (clashText c)) × ((b ≡ stored d at (clashText c)) × (r ≤ at + 24))
+  clash-ends c = ends (clashText c) 24 (clash-short c)

@@ -1,7 +1,8 @@
--- The lines that the program prints of a refusal and of a result (01, "The program and one full run").
+-- The lines that the programs print: of a refusal and of a result (01, "The program and one full run"), and of a clash (02, S-9).
 use mathlib.Core.Bool.{Bool, cond}
 use mathlib.Core.List.{List, [], _∷_}
 use Prim.Native.Nat.{ℕ}
+use Rattle.text.specs.declared.Clash.{Clash}
 use Rattle.text.specs.Writing.{decimal, printed}
 
 -- ---- words
@@ -47,6 +48,13 @@ refusedWord = 114 ∷ 101 ∷ 102 ∷ 117 ∷ 115 ∷ 101 ∷ 100 ∷ []
 -- A refusal prints one line: file (1 module, 2 plan, 0 both or the result), number, line.
 unfoldable pub refusalText : ℕ → ℕ → ℕ → List ℕ
 refusalText file number line = printed ((refusedWord ∷ decimal file ∷ decimal number ∷ decimal line ∷ []) ∷ [])
+
+-- A clash prints one line: file and line of the later name, then of the first that it clashes with.
+abbrev pub clashRow : Clash → List (List ℕ)
+clashRow c = decimal (c .later .text) ∷ decimal (c .later .line) ∷ decimal (c .first .text) ∷ decimal (c .first .line) ∷ []
+
+unfoldable pub clashText : Clash → List ℕ
+clashText c = printed (clashRow c ∷ [])
 
 -- The six lines. Steps and ends are over all pairs, with either verdict.
 unfoldable pub figures : Bool → ℕ → ℕ → ℕ → ℕ → ℕ → List ℕ

@@ -1,10 +1,11 @@
-// The lines that the program prints of a refusal and of a result (document 01, "The program and one full run"), put into a lent buffer.
-// Each call returns the place after what it put.
+// The lines that the programs print, put into a lent buffer: of a refusal and of a result (document 01, "The program and one full run"), and of a
+// clash (document 02, S-9). Each call returns the place after what it put.
 ghost use mathlib.Core.Path.{_≡_};
 ghost use Prim.Native.Nat.{_+_, _≤_};
 ghost use lib.ListN.{length};
 ghost use Rattle.emit.specs.Buffer.{after, stored};
-ghost use Rattle.printout.specs.Lines.{refusalText, figures as figuresText, verdictText, figureText};
+ghost use Rattle.printout.specs.Lines.{refusalText, clashText, figures as figuresText, verdictText, figureText};
+use text::Clash;
 
 // The one line of a refusal.
 pub fn refusal_line(out: &mut [u8], at: usize, file: u32, number: u32, line: usize) -> usize
@@ -16,6 +17,20 @@ pub fn refusal_line(out: &mut [u8], at: usize, file: u32, number: u32, line: usi
     let j = emit::number(out, i, file as usize, 9);
     let k = emit::number(out, j, number as usize, 9);
     emit::number(out, k, line, 10)
+}
+
+// The one line of a clash.
+pub fn clash_line(out: &mut [u8], at: usize, clash: Clash) -> usize
+    ensures { λ r. ⌜ r ≡ after (length (now (out .entry))) at (clashText clash) ⌝ }
+    ensures { λ r. ⌜ now (out .exit) ≡ stored (now (out .entry)) at (clashText clash) ⌝ }
+    ensures { λ r. ⌜ r ≤ at + 24 ⌝ }
+{
+    let later = clash.later;
+    let first = clash.first;
+    let i = emit::number(out, at, later.text as usize, 9);
+    let j = emit::number(out, i, later.line, 9);
+    let k = emit::number(out, j, first.text as usize, 9);
+    emit::number(out, k, first.line, 10)
 }
 
 // The first of the six lines, from the buffer's first byte on.

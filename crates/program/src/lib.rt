@@ -1,4 +1,5 @@
-// The program but for its reading and printing (document 01, "The program and one full run").
+// The programs but for their reading and printing: the main program (document 01, "The program and one full run") and the lister of clashes
+// (document 02, S-9).
 ghost use mathlib.Core.Path.{_≡_};
 ghost use Prim.Native.Nat.{_≤_};
 ghost use lib.ListN.{length};
@@ -6,7 +7,11 @@ ghost use Rattle.emit.specs.Buffer.{after, stored};
 ghost use Rattle.program.specs.Run.{programText, programBuffers};
 use files::File;
 
-// The program, by what came of its two files: 24 for the first unreadable one, else the report. Each text stands at the start of its buffer.
+mod lister;
+
+pub use lister::clashes;
+
+// The main program, by what came of its two files: 24 for the first unreadable one, else the report. Each text stands at the start of its buffer.
 pub fn program<'a>(
     first: File,
     second: File,

@@ -16,8 +16,10 @@ use Rattle.theory.proofs.Filled.{any-default}
 use Rattle.theory.proofs.Table.{table-narrow}
 use Rattle.text.specs.declared.Place.the-variants.{Declarations, Steps as StepsPlace}
 use Rattle.text.specs.declared.Role.{Role}
+use Rattle.text.specs.declared.Spelling.{Spelling}
+use Rattle.text.specs.declared.Spelling.the-variants.{Exact}
 use Rattle.text.specs.declared.Role.the-variants.{Input, Output}
-use Rattle.text.specs.Reading.{indexOf, withRole, started, declaring, stepping}
+use Rattle.text.specs.Reading.{firstMatch, indexOf, withRole, started, declaring, stepping}
 use Rattle.text.proofs.Names.{index-le}
 use Rattle.text.proofs.Accepted.{with-states}
 use Rattle.signals.specs.declared.Name.{Name}
@@ -99,27 +101,31 @@ module _ (st : State) (states initial room : ℕ) (ok : Sound st room) where
 module _ (m p : List ℕ) (st : State) (name : Name) (number : ℕ) (fit : Fit (st .signals))
     (found : number ≡ indexOf (nameAt m p name) (signalsOf m p (st .signals))) where
   pub number-le : number ≤ st .signals .count
-  number-le = omega (arith, index-le (nameAt m p name) (signalsOf m p (st .signals)), signals-length m p (st .signals) fit)
+  number-le = omega (arith, index-le Exact (nameAt m p name) (signalsOf m p (st .signals)), signals-length m p (st .signals) fit)
 
   pub addable : number < 32 → Addable (st .signals) number
   addable h = record { fit = fit; at-most = number-le; below = h }
 
-  module _ (role : Role) (room : ℕ) (ok : Sound st room) (r : Bool) (told : r ≡ isDeclared (st .header) number) where
-    pub declare-twice : r ≡ true → (x : Advanced) → x ≡ halted 18 st → Declares m p st role name room x
+  module _ (c : Spelling) (role : Role) (room : ℕ) (ok : Sound st room) (r : Bool) (told : r ≡ isDeclared (st .header) number) where
+    pub declare-twice : r ≡ true → (x : Advanced) → x ≡ halted 18 st → Declares m p c st role name room x
     unfolding declaring
     declare-twice e x f = rw f (record { sound = ok; means = λ cells. rw (← found, ← told, e) })
 
-    module _ (new : r ≡ false) where
-      pub declare-many : 32 ≤ number → (x : Advanced) → x ≡ halted 21 st → Declares m p st role name room x
+    module _ (new : r ≡ false) (match : ℕ) (matched : match ≡ firstMatch c (nameAt m p name) (signalsOf m p (st .signals))) where
+      pub declare-clash : match < number → (x : Advanced) → x ≡ halted 28 st → Declares m p c st role name room x
       unfolding declaring
-      declare-many h x f = rw f (record { sound = ok; means = λ cells. rw (← found, ← told, new, le-leb 32 number h) })
+      declare-clash h x f = rw f (record { sound = ok; means = λ cells. rw (← found, ← told, new, ← matched, lt-ltb match number h) })
 
-      pub declare-good : number < 32 → (h : Automaton) (s : Signals) → h ≡ withRole role number (st .header) → Added (st .signals) name number s
-          → (x : Advanced) → x ≡ gone (record { place = Declarations; header = h; signals = s }) → Declares m p st role name room x
+      pub declare-many : number ≤ match → 32 ≤ number → (x : Advanced) → x ≡ halted 21 st → Declares m p c st role name room x
       unfolding declaring
-      declare-good k h s e a x f = rw f (record {
+      declare-many g h x f = rw f (record { sound = ok; means = λ cells. rw (← found, ← told, new, ← matched, le-ltb match number g, le-leb 32 number h) })
+
+      pub declare-good : number ≤ match → number < 32 → (h : Automaton) (s : Signals) → h ≡ withRole role number (st .header) → Added (st .signals) name number s
+          → (x : Advanced) → x ≡ gone (record { place = Declarations; header = h; signals = s }) → Declares m p c st role name room x
+      unfolding declaring
+      declare-good g k h s e a x f = rw f (record {
         sound = record { fit = a .fit; small = rw (e, with-states role number (st .header)) (ok .small); wide = rw (e, with-states role number (st .header)) (ok .wide) };
-        means = λ cells. rw (← found, ← told, new, lt-leb 32 number k, e, a .means m p);
+        means = λ cells. rw (← found, ← told, new, ← matched, le-ltb match number g, lt-leb 32 number k, e, a .means m p);
       })
 
   -- ---- a step

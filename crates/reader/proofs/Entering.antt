@@ -8,8 +8,9 @@ use mir.Val.{Fits}
 use lib.ListN.{length, take, drop, length-drop}
 use lib.Seq.{length-take-le}
 use Rattle.text.specs.declared.Role.{Role}
+use Rattle.text.specs.declared.Spelling.{Spelling}
 use Rattle.text.specs.Lines.{roleWord}
-use Rattle.text.specs.Reading.{entered}
+use Rattle.text.specs.Reading.{textOf, entered}
 use Rattle.line.specs.declared.Record.{Record}
 use Rattle.line.specs.declared.Record.the-variants.{Table, Declaration, Step}
 use Rattle.line.specs.declared.Parsed.the-variants.{Fields}
@@ -18,7 +19,7 @@ use Rattle.line.proofs.Meaning.{DeclarationReply, StepReply, table-reply, decla
 use Rattle.reader.specs.declared.state.State.{State}
 use Rattle.reader.specs.declared.entries.Advanced.{Advanced}
 use Rattle.signals.specs.declared.Name.{Name}
-use Rattle.signals.specs.Names.{textOf, nameAt}
+use Rattle.signals.specs.Names.{nameAt}
 use Rattle.reader.specs.State.{reading, Starts, Declares, Steps, InText, Says, Enters}
 use Rattle.reader.proofs.Lines.{part-rest, part-part}
 
@@ -38,10 +39,10 @@ module _ (m p : List ℕ) (text at end : ℕ) (st : State) (fields : Record) (sa
   line-length : length line ≡ end - at
   line-length = length-take-le (end - at) (drop at bytes) (omega (arith, inside .from-to, inside .below, length-drop at bytes))
 
-  pub enter-table : (cells : List ℕ) (s i : ℕ) → fields ≡ Table s i → (room : ℕ) → room ≡ length cells → (r : Advanced) → Starts st s i room r
-      → Enters m p text at end st cells r cells
+  pub enter-table : (c : Spelling) (cells : List ℕ) (s i : ℕ) → fields ≡ Table s i → (room : ℕ) → room ≡ length cells → (r : Advanced) → Starts st s i room r
+      → Enters m p text c at end st cells r cells
   unfolding entered
-  enter-table cells s i f room g r d = record {
+  enter-table c cells s i f room g r d = record {
     sound = rw g at (d .sound);
     means = rw (table-reply (st .place) line s i (sym (says .told) ∙ ap Fields f) .entry) (d .means m p cells (sym g));
   }
@@ -62,11 +63,11 @@ module _ (m p : List ℕ) (text at end : ℕ) (st : State) (fields : Record) (sa
       omega (arith, name-short _ (declared .named), length-drop (length (roleWord role) + 1) line, line-length),
     )
 
-    pub enter-declaration : (name : Name) → name ≡ record { text = text; length = end - (at + start); from = at + start } → (cells : List ℕ) (room : ℕ)
-        → room ≡ length cells → (r : Advanced) → Declares m p st role name room r → Enters m p text at end st cells r cells
+    pub enter-declaration : (c : Spelling) (name : Name) → name ≡ record { text = text; length = end - (at + start); from = at + start } → (cells : List ℕ) (room : ℕ)
+        → room ≡ length cells → (r : Advanced) → Declares m p c st role name room r → Enters m p text c at end st cells r cells
     unfolding entered
-    enter-declaration n e cells room g r d₀ =
-        let d : Declares m p st role (record { text = text; length = end - (at + start); from = at + start }) room r = rw e at d₀ in
+    enter-declaration c n e cells room g r d₀ =
+        let d : Declares m p c st role (record { text = text; length = end - (at + start); from = at + start }) room r = rw e at d₀ in
         let name : nameAt m p (record { text = text; length = end - (at + start); from = at + start }) ≡ drop (length (roleWord role) + 1) line =
         sym (part-rest bytes at end (length (roleWord role) + 1) ∙ rw begins) in
         let from : at + start ≡ at + length (roleWord role) + 1 = omega arith in
@@ -93,10 +94,10 @@ module _ (m p : List ℕ) (text at end : ℕ) (st : State) (fields : Record) (sa
           omega (arith, name-short _ (stepped .named)),
         )
 
-    pub enter-step : (name : Name) → name ≡ record { text = text; length = stop - start; from = at + start } → (cells cells′ : List ℕ) (r : Advanced)
-        → Steps m p st cells from name to r cells′ → Enters m p text at end st cells r cells′
+    pub enter-step : (c : Spelling) (name : Name) → name ≡ record { text = text; length = stop - start; from = at + start } → (cells cells′ : List ℕ) (r : Advanced)
+        → Steps m p st cells from name to r cells′ → Enters m p text c at end st cells r cells′
     unfolding entered
-    enter-step n e cells cells′ r d₀ =
+    enter-step c n e cells cells′ r d₀ =
         let d : Steps m p st cells from (record { text = text; length = stop - start; from = at + start }) to r cells′ = rw e at d₀ in
         let name : nameAt m p (record { text = text; length = stop - start; from = at + start }) ≡ take (stop - start) (drop start line) =
         sym (part-part bytes at end start stop (stepped .in-order) (omega (arith, stepped .within, line-length))) in

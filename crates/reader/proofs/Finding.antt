@@ -14,6 +14,7 @@ use Rattle.theory.specs.Table.{member}
 use Rattle.theory.proofs.Sets.{member-or}
 use Rattle.theory.proofs.Filled.{any-default}
 use Rattle.theory.proofs.Tests.{or-cases}
+use Rattle.text.specs.declared.Spelling.{Spelling}
 use Rattle.text.specs.Reading.{readAlone, readBoth}
 use Rattle.text.specs.Lookup.{nobody}
 use Rattle.text.proofs.Accepted.{accepted-alone, accepted-both}
@@ -45,18 +46,18 @@ pub declared-of : (a b : Automaton) (s d e : ℕ) (r : Bool) → d ≡ bitOr (a 
 declared-of a b s d e r f g h =
     h ∙ member-or d e s ∙ rw (f, g, member-or (a .inputs) (a .outputs) s, member-or (b .inputs) (b .outputs) s)
 
-module _ (m p : List ℕ) (room room′ : ℕ) (t : Both) (cells cells′ : List ℕ) (read : ReadsBoth m p room room′ t cells cells′) (a : ℕ) (r : Found) where
-  pub found-refused : t .refused ≡ true → r ≡ placed nobody (t .refusal .number) → r ≡ foundIn (readBoth room m room′ p) a
-  found-refused e f = f ∙ ap (λ j. foundIn j a) (both-ended m p room room′ t cells cells′ read e)
+module _ (m p : List ℕ) (c : Spelling) (room room′ : ℕ) (t : Both) (cells cells′ : List ℕ) (read : ReadsBoth m p c room room′ t cells cells′) (a : ℕ) (r : Found) where
+  pub found-refused : t .refused ≡ true → r ≡ placed nobody (t .refusal .number) → r ≡ foundIn (readBoth c room m room′ p) a
+  found-refused e f = f ∙ ap (λ j. foundIn j a) (both-ended m p c room room′ t cells cells′ read e)
 
   module _ (e : t .refused ≡ false) (d : Bool) (told : d ≡ (isDeclared (t .first .header) a || isDeclared (t .second .header) a)) where
-    pub found-undeclared : not d ≡ true → r ≡ placed nobody 12 → r ≡ foundIn (readBoth room m room′ p) a
-    found-undeclared g f = subst (λ j. r ≡ foundIn j a) (both-finished m p room room′ t cells cells′ read e) (f ∙ rw (← told, not-true d g))
+    pub found-undeclared : not d ≡ true → r ≡ placed nobody 12 → r ≡ foundIn (readBoth c room m room′ p) a
+    found-undeclared g f = subst (λ j. r ≡ foundIn j a) (both-finished m p c room room′ t cells cells′ read e) (f ∙ rw (← told, not-true d g))
 
     module _ (g : not d ≡ false) where
       pub held-both : Held (t .second .signals) a
       held-both =
-          let ok = accepted-both room m room′ p _ _ (sym (both-finished m p room room′ t cells cells′ read e)) in
+          let ok = accepted-both c room m room′ p _ _ (sym (both-finished m p c room room′ t cells cells′ read e)) in
           let many : length (signalsOf m p (t .second .signals)) ≡ t .second .signals .count = signals-length m p (t .second .signals) (read .fit) in
           let more : length (signalsOf m p (t .second .signals)) ≡ length (signalsOf m p (t .first .signals)) + length (ok .second .more) =
           ap length (ok .second .extends) ∙ length-append (signalsOf m p (t .first .signals)) (ok .second .more) in
@@ -68,27 +69,27 @@ module _ (m p : List ℕ) (room room′ : ℕ) (t : Both) (cells cells′ : List
             ];
           }
 
-      pub found-there : r ≡ placed (getD (signalsOf m p (t .second .signals)) a nobody) 0 → r ≡ foundIn (readBoth room m room′ p) a
-      found-there f = subst (λ j. r ≡ foundIn j a) (both-finished m p room room′ t cells cells′ read e) (f ∙ rw (← told, not-false d g))
+      pub found-there : r ≡ placed (getD (signalsOf m p (t .second .signals)) a nobody) 0 → r ≡ foundIn (readBoth c room m room′ p) a
+      found-there f = subst (λ j. r ≡ foundIn j a) (both-finished m p c room room′ t cells cells′ read e) (f ∙ rw (← told, not-false d g))
 
 -- ---- a text alone
 
-module _ (m : List ℕ) (room : ℕ) (t : Told) (cells : List ℕ) (read : ReadsOne m room t cells) (a : ℕ) (r : Found) where
-  pub alone-found-refused : t .refused ≡ true → r ≡ placed nobody (t .refusal .number) → r ≡ foundAloneIn (readAlone room m) a
-  alone-found-refused e f = f ∙ ap (λ o. foundAloneIn o a) (alone-ended m room t cells read e)
+module _ (m : List ℕ) (c : Spelling) (room : ℕ) (t : Told) (cells : List ℕ) (read : ReadsOne m c room t cells) (a : ℕ) (r : Found) where
+  pub alone-found-refused : t .refused ≡ true → r ≡ placed nobody (t .refusal .number) → r ≡ foundAloneIn (readAlone c room m) a
+  alone-found-refused e f = f ∙ ap (λ o. foundAloneIn o a) (alone-ended m c room t cells read e)
 
   module _ (e : t .refused ≡ false) (d : Bool) (told : d ≡ isDeclared (t .state .header) a) where
-    pub alone-undeclared : not d ≡ true → r ≡ placed nobody 12 → r ≡ foundAloneIn (readAlone room m) a
-    alone-undeclared g f = subst (λ o. r ≡ foundAloneIn o a) (alone-finished m room t cells read e) (f ∙ rw (← told, not-true d g))
+    pub alone-undeclared : not d ≡ true → r ≡ placed nobody 12 → r ≡ foundAloneIn (readAlone c room m) a
+    alone-undeclared g f = subst (λ o. r ≡ foundAloneIn o a) (alone-finished m c room t cells read e) (f ∙ rw (← told, not-true d g))
 
     module _ (g : not d ≡ false) where
       pub held-alone : Held (t .state .signals) a
       held-alone =
-          let ok = accepted-alone room m _ (sym (alone-finished m room t cells read e)) in
+          let ok = accepted-alone c room m _ (sym (alone-finished m c room t cells read e)) in
           record {
             fit = read .fit;
             below = omega (arith, ok .numbered a (subst T (sym (not-false d g) ∙ told) tt), signals-length m m (t .state .signals) (read .fit));
           }
 
-      pub alone-there : r ≡ placed (getD (signalsOf m m (t .state .signals)) a nobody) 0 → r ≡ foundAloneIn (readAlone room m) a
-      alone-there f = subst (λ o. r ≡ foundAloneIn o a) (alone-finished m room t cells read e) (f ∙ rw (← told, not-false d g))
+      pub alone-there : r ≡ placed (getD (signalsOf m m (t .state .signals)) a nobody) 0 → r ≡ foundAloneIn (readAlone c room m) a
+      alone-there f = subst (λ o. r ≡ foundAloneIn o a) (alone-finished m c room t cells read e) (f ∙ rw (← told, not-false d g))

@@ -7,3 +7,4 @@ pub mod Joined
 pub mod Meaning
 pub mod Replies
 pub mod Finding
+pub mod Rows

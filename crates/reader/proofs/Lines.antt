@@ -6,6 +6,7 @@ use native.Mathlib.Numerals.{add-one}
 use native.Mathlib.Omega.{arith}
 use lib.ListN.{length, take, drop}
 use lib.Seq.{drop-cons, drop-drop, take-nil, take-take}
+use Rattle.text.specs.declared.Spelling.{Spelling}
 use Rattle.text.specs.Fields.{upto, split}
 use Rattle.text.specs.Lines.{parse}
 use Rattle.text.specs.Reading.{Reading, Outcome, finished, refuseAt, onward, entered, readLines}
@@ -32,9 +33,9 @@ module _ (bytes : List ℕ) (at end : ℕ) where
 
 -- ---- the lines from the k-th on, which begins at the byte `at` and is e bytes long
 
-module _ (text k : ℕ) (R : Reading) (bytes : List ℕ) (at : ℕ) where
+module _ (c : Spelling) (text k : ℕ) (R : Reading) (bytes : List ℕ) (at : ℕ) where
   abbrev rest : Outcome
-  rest = readLines text k at R (split 10 (drop at bytes))
+  rest = readLines c text k at R (split 10 (drop at bytes))
 
   pub lines-done : length bytes ≤ at → rest ≡ finished R
   unfolding readLines
@@ -46,7 +47,7 @@ module _ (text k : ℕ) (R : Reading) (bytes : List ℕ) (at : ℕ) where
     lines-unended h g = rw (part-last 10 bytes at e f g, drop-cons bytes at 0 h)
 
     pub lines-onward : at + e < length bytes
-        → rest ≡ onward text k (entered text at R (parse (R .place) (take e (drop at bytes)))) (λ st. readLines text (k + 1) (at + e + 1) st (split 10 (drop (at + e + 1) bytes)))
+        → rest ≡ onward text k (entered c text at R (parse (R .place) (take e (drop at bytes)))) (λ st. readLines c text (k + 1) (at + e + 1) st (split 10 (drop (at + e + 1) bytes)))
     unfolding readLines
     lines-onward g =
         let s = split-some 10 (drop (at + e + 1) bytes) in

@@ -8,34 +8,36 @@ use native.Mathlib.Omega.{arith}
 use lib.ListN.{length, take, drop, getD, set, length-map, length-set, length-drop, drop-of-length-le, List·getD-map}
 use lib.Seq.{drop-cons, getD-take, getD-drop, length-take-le, take-suc-set}
 use borrow.Author.Tests.{lt-ltb, le-ltb}
-use Rattle.text.specs.Fields.{same}
-use Rattle.text.specs.Reading.{indexOf}
-use Rattle.scan.proofs.Bytes.{same-unlike, same-differ-at}
+use Rattle.text.specs.declared.Spelling.{Spelling}
+use Rattle.text.specs.Fields.{spelled, matches}
+use Rattle.text.specs.Reading.{textOf, firstMatch}
+use Rattle.scan.proofs.Bytes.{match-unlike, match-differ}
 use Rattle.signals.specs.declared.Name.{Name}
 use Rattle.reader.specs.declared.state.Signals.{Signals}
-use Rattle.signals.specs.Names.{textOf, nameAt}
+use Rattle.signals.specs.Names.{nameAt}
 use Rattle.reader.specs.State.{signalAt, signalsOf, Fit, Addable, Added}
 
 -- ---- a name that stands in its text t: what tells it from others
 
-module _ (m p : List ℕ) (n : Name) (t : List ℕ) (whole : t ≡ textOf m p (n .text)) (inside : n .from + n .length ≤ length t) (wanted : List ℕ) where
+module _ (m p : List ℕ) (n : Name) (t : List ℕ) (whole : t ≡ textOf m p (n .text)) (inside : n .from + n .length ≤ length t)
+    (c : Spelling) (wanted : List ℕ) where
   part : nameAt m p n ≡ take (n .length) (drop (n .from) t)
   part = rw whole
 
   size : length (nameAt m p n) ≡ n .length
   size = ap length part ∙ length-take-le (n .length) (drop (n .from) t) (omega (arith, length-drop (n .from) t))
 
-  pub unlike-length : (n .length ≡ length wanted → ⊥) → false ≡ same (nameAt m p n) wanted
-  unlike-length h = same-unlike (nameAt m p n) wanted (λ e. h (sym size ∙ e))
+  pub unlike-length : (n .length ≡ length wanted → ⊥) → false ≡ matches c (nameAt m p n) wanted
+  unlike-length h = match-unlike c (nameAt m p n) wanted (λ e. h (sym size ∙ e))
 
-  pub unlike-last : 0 < n .length → n .length ≡ length wanted → (getD t (n .from + n .length - 1) 0 ≡ getD wanted (n .length - 1) 0 → ⊥)
-      → false ≡ same (nameAt m p n) wanted
-  unlike-last h l d =
+  pub unlike-last : 0 < n .length → n .length ≡ length wanted → (x : ℕ) → x ≡ spelled c (getD t (n .from + n .length - 1) 0)
+      → (y : ℕ) → y ≡ spelled c (getD wanted (n .length - 1) 0) → (x ≡ y → ⊥) → false ≡ matches c (nameAt m p n) wanted
+  unlike-last h l x f y g d =
       let i : n .from + (n .length - 1) ≡ n .from + n .length - 1 = omega arith in
       let e : getD (nameAt m p n) (n .length - 1) 0 ≡ getD t (n .from + n .length - 1) 0 =
       ap (λ b. getD b (n .length - 1) 0) part ∙ getD-take (n .length) (drop (n .from) t) (n .length - 1) 0 (omega arith)
       ∙ getD-drop (n .from) t (n .length - 1) 0 ∙ ap (λ j. getD t j 0) i in
-      same-differ-at (nameAt m p n) wanted (n .length - 1) (omega (arith, size)) (omega arith) (λ f. d (sym e ∙ f))
+      match-differ c (nameAt m p n) wanted (n .length - 1) (omega (arith, size)) (omega arith) x (rw e f) y g d
 
 -- ---- finding a name
 
@@ -49,25 +51,25 @@ module _ (m p : List ℕ) (s : Signals) (fit : Fit s) where
   unfolding signalsOf
   signal-at d i h = List·getD-map (signalAt m p) (take (s .count) (s .names)) i d ∙ ap (signalAt m p) (getD-take (s .count) (s .names) i d h)
 
-  module _ (wanted : List ℕ) (i : ℕ) (inv : i + indexOf wanted (drop i (signalsOf m p s)) ≡ indexOf wanted (signalsOf m p s)) where
-    module _ (d : Name) (h : i < s .count) (r : Bool) (told : r ≡ same (nameAt m p (getD (s .names) i d)) wanted) where
+  module _ (c : Spelling) (wanted : List ℕ) (i : ℕ) (inv : i + firstMatch c wanted (drop i (signalsOf m p s)) ≡ firstMatch c wanted (signalsOf m p s)) where
+    module _ (d : Name) (h : i < s .count) (r : Bool) (told : r ≡ matches c (nameAt m p (getD (s .names) i d)) wanted) where
       signals-step : drop i (signalsOf m p s) ≡ signalAt m p (getD (s .names) i d) ∷ drop (i + 1) (signalsOf m p s)
       signals-step = drop-cons (signalsOf m p s) i (signalAt m p d) (omega (arith, signals-length)) ∙ simp (signal-at d i h, add-one)
 
-      index-step : indexOf wanted (drop i (signalsOf m p s)) ≡ cond r 0 (suc (indexOf wanted (drop (i + 1) (signalsOf m p s))))
-      unfolding indexOf
-      index-step = ap (indexOf wanted) signals-step ∙ rw told
+      index-step : firstMatch c wanted (drop i (signalsOf m p s)) ≡ cond r 0 (suc (firstMatch c wanted (drop (i + 1) (signalsOf m p s))))
+      unfolding firstMatch
+      index-step = ap (firstMatch c wanted) signals-step ∙ rw told
 
-      pub index-found : (n : Name) → wanted ≡ nameAt m p n → r ≡ true → i ≡ indexOf (nameAt m p n) (signalsOf m p s)
+      pub index-found : (n : Name) → wanted ≡ nameAt m p n → r ≡ true → i ≡ firstMatch c (nameAt m p n) (signalsOf m p s)
       index-found n w e = rw (← w) (omega (arith, simp e at index-step))
 
-      pub index-next : r ≡ false → i + 1 + indexOf wanted (drop (i + 1) (signalsOf m p s)) ≡ indexOf wanted (signalsOf m p s)
+      pub index-next : r ≡ false → i + 1 + firstMatch c wanted (drop (i + 1) (signalsOf m p s)) ≡ firstMatch c wanted (signalsOf m p s)
       index-next e = omega (arith, simp e at index-step)
 
-    pub index-none : s .count ≤ i → i ≤ s .count → (n : Name) → wanted ≡ nameAt m p n → i ≡ indexOf (nameAt m p n) (signalsOf m p s)
-    unfolding indexOf
+    pub index-none : s .count ≤ i → i ≤ s .count → (n : Name) → wanted ≡ nameAt m p n → i ≡ firstMatch c (nameAt m p n) (signalsOf m p s)
+    unfolding firstMatch
     index-none h g n w =
-        let z : indexOf wanted (drop i (signalsOf m p s)) ≡ 0 = ap (indexOf wanted) (drop-of-length-le (signalsOf m p s) {i = i} (omega (arith, signals-length))) in
+        let z : firstMatch c wanted (drop i (signalsOf m p s)) ≡ 0 = ap (firstMatch c wanted) (drop-of-length-le (signalsOf m p s) {i = i} (omega (arith, signals-length))) in
         rw (← w) (omega arith)
 
 module _ (s : Signals) (name : Name) (number : ℕ) (ok : Addable s number) where

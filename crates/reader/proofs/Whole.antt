@@ -8,9 +8,10 @@ use native.Mathlib.Decide.{decLt}
 use lib.ListN.{length, take, drop, length-drop}
 use borrow.Author.Tests.{lt-ltb, le-ltb}
 use Rattle.text.specs.declared.Place.{Place}
+use Rattle.text.specs.declared.Spelling.{Spelling}
 use Rattle.text.specs.Fields.{upto, split}
 use Rattle.text.specs.Lines.{parse}
-use Rattle.text.specs.Reading.{next, stop, Outcome, refuseAt, onward, entered, isNil, fresh, readLines, readFrom}
+use Rattle.text.specs.Reading.{textOf, next, stop, Outcome, refuseAt, onward, entered, isNil, fresh, readLines, readFrom}
 use Rattle.line.specs.declared.Record.{Record}
 use Rattle.line.specs.declared.Line.{Line}
 use Rattle.line.specs.declared.Line.the-variants.{Taken}
@@ -21,7 +22,6 @@ use Rattle.reader.specs.declared.state.Signals.{Signals}
 use Rattle.reader.specs.declared.state.State.{State}
 use Rattle.reader.specs.declared.entries.Advanced.{Advanced}
 use Rattle.reader.specs.declared.state.Told.{Told}
-use Rattle.signals.specs.Names.{textOf}
 use Rattle.reader.specs.State.{signalsOf, reading, result, Fit, freshState, Sound, Enters, Blank, Says, numberIn, ReadsLines, Reads}
 use Rattle.reader.proofs.Lines.{lines-done, lines-unended, lines-onward}
 
@@ -54,34 +54,34 @@ module _ (bytes : List ℕ) (at : ℕ) (u : List ℕ) (rest : u ≡ drop at byte
 
 -- ---- lines, one after the other: st₀ and cells₀ are the state and the cells before the first
 
-module _ (m p : List ℕ) (text : ℕ) (s : Signals) (st₀ : State) (begun : st₀ ≡ freshState s) (cells₀ : List ℕ) (clear : Blank s cells₀) where
+module _ (m p : List ℕ) (text : ℕ) (c : Spelling) (s : Signals) (st₀ : State) (begun : st₀ ≡ freshState s) (cells₀ : List ℕ) (clear : Blank s cells₀) where
   abbrev whole : List ℕ → Outcome
-  whole bytes = readLines text 1 0 (reading m p st₀ cells₀) (split 10 bytes)
+  whole bytes = readLines c text 1 0 (reading m p st₀ cells₀) (split 10 bytes)
 
   module _ (bytes : List ℕ) (same : bytes ≡ textOf m p text) (st : State) (cells : List ℕ) (k at : ℕ) (fit : Fit (st .signals))
-      (inv : readLines text k at (reading m p st cells) (split 10 (drop at bytes)) ≡ whole bytes) where
+      (inv : readLines c text k at (reading m p st cells) (split 10 (drop at bytes)) ≡ whole bytes) where
     abbrev room : ℕ
     room = length cells₀
 
-    so : (o : Outcome) → o ≡ readLines text k at (reading m p st cells) (split 10 (drop at bytes)) → o ≡ readLines text 1 0 (fresh (signalsOf m p s) room) (split 10 (textOf m p text))
+    so : (o : Outcome) → o ≡ readLines c text k at (reading m p st cells) (split 10 (drop at bytes)) → o ≡ readLines c text 1 0 (fresh (signalsOf m p s) room) (split 10 (textOf m p text))
     so o e =
         let start : reading m p st₀ cells₀ ≡ fresh (signalsOf m p s) room = rw (begun, ← clear .blank) in
-        e ∙ inv ∙ ap (λ R. readLines text 1 0 R (split 10 bytes)) start ∙ rw same
+        e ∙ inv ∙ ap (λ R. readLines c text 1 0 R (split 10 bytes)) start ∙ rw same
 
     pub told-done : length bytes ≤ at
-        → ReadsLines m p text s room (record { refused = false; refusal = record { number = 0; text = 0; line = 0 }; state = st }) cells
-    told-done h = record { fit = fit; means = so _ (sym (lines-done text k (reading m p st cells) bytes at h)) }
+        → ReadsLines m p text c s room (record { refused = false; refusal = record { number = 0; text = 0; line = 0 }; state = st }) cells
+    told-done h = record { fit = fit; means = so _ (sym (lines-done c text k (reading m p st cells) bytes at h)) }
 
     module _ (h : at < length bytes) (u : List ℕ) (rest : u ≡ drop at bytes) (l : Line) (read : l ≡ firstLine (st .place) u) where
-      pub told-unread : (i : ℕ) → l ≡ NoLine i → (n : ℕ) → n ≡ numberIn l → (r : Told) → r ≡ refusing n text k st → ReadsLines m p text s room r cells
+      pub told-unread : (i : ℕ) → l ≡ NoLine i → (n : ℕ) → n ≡ numberIn l → (r : Told) → r ≡ refusing n text k st → ReadsLines m p text c s room r cells
       unfolding entered
       told-unread i e n f r g =
           let d : LineRefused (st .place) (drop at bytes) i = rw rest at (line-refused (st .place) u l read i e) in
           let z : n ≡ i = f ∙ ap numberIn e in
-          let x : refuseAt i text k ≡ readLines text k at (reading m p st cells) (split 10 (drop at bytes)) =
+          let x : refuseAt i text k ≡ readLines c text k at (reading m p st cells) (split 10 (drop at bytes)) =
           elim (decLt (upto 10 (drop at bytes)) (length (drop at bytes))) [
-            | yes w ↦ sym (lines-onward text k (reading m p st cells) bytes at _ refl (omega (arith, length-drop at bytes)) ∙ rw (d .told w))
-            | no w ↦ sym (lines-unended text k (reading m p st cells) bytes at _ refl h (omega (arith, length-drop at bytes)) ∙ rw (d .unended (omega arith)))
+            | yes w ↦ sym (lines-onward c text k (reading m p st cells) bytes at _ refl (omega (arith, length-drop at bytes)) ∙ rw (d .told w))
+            | no w ↦ sym (lines-unended c text k (reading m p st cells) bytes at _ refl h (omega (arith, length-drop at bytes)) ∙ rw (d .unended (omega arith)))
           ] in
           rw (g, z) (record { fit = fit; means = so _ x })
 
@@ -92,35 +92,35 @@ module _ (m p : List ℕ) (text : ℕ) (s : Signals) (st₀ : State) (begun : st
         ends-within : at + e < length bytes
         ends-within = line-ends bytes at u rest (st .place) l read fields e taken
 
-        module _ (end : ℕ) (ends : end ≡ at + e) (q : Advanced) (cells′ : List ℕ) (d : Enters m p text at end st cells q cells′) where
-          step : result m p q cells′ ≡ entered text at (reading m p st cells) (parse (st .place) (take e (drop at bytes)))
+        module _ (end : ℕ) (ends : end ≡ at + e) (q : Advanced) (cells′ : List ℕ) (d : Enters m p text c at end st cells q cells′) where
+          step : result m p q cells′ ≡ entered c text at (reading m p st cells) (parse (st .place) (take e (drop at bytes)))
           step = d .means ∙ rw (same, let z : end - at ≡ e = omega arith in z)
 
-          pub told-refused : q .refused ≡ true → (r : Told) → r ≡ refusing (q .number) text k st → ReadsLines m p text s room r cells′
+          pub told-refused : q .refused ≡ true → (r : Told) → r ≡ refusing (q .number) text k st → ReadsLines m p text c s room r cells′
           told-refused o r f =
-              let x : stop (q .number) ≡ entered text at (reading m p st cells) (parse (st .place) (take e (drop at bytes))) = simp o at step in
+              let x : stop (q .number) ≡ entered c text at (reading m p st cells) (parse (st .place) (take e (drop at bytes))) = simp o at step in
               rw f (record {
                 fit = fit;
-                means = so _ (ap (λ y. onward text k y (λ st. readLines text (k + 1) (at + e + 1) st (split 10 (drop (at + e + 1) bytes)))) x
-                    ∙ sym (lines-onward text k (reading m p st cells) bytes at e (line .line) ends-within));
+                means = so _ (ap (λ y. onward text k y (λ st. readLines c text (k + 1) (at + e + 1) st (split 10 (drop (at + e + 1) bytes)))) x
+                    ∙ sym (lines-onward c text k (reading m p st cells) bytes at e (line .line) ends-within));
               })
 
           pub told-next : q .refused ≡ false
-              → readLines text (k + 1) (end + 1) (reading m p (q .state) cells′) (split 10 (drop (end + 1) bytes)) ≡ whole bytes
+              → readLines c text (k + 1) (end + 1) (reading m p (q .state) cells′) (split 10 (drop (end + 1) bytes)) ≡ whole bytes
           told-next o =
-              let x : next (reading m p (q .state) cells′) ≡ entered text at (reading m p st cells) (parse (st .place) (take e (drop at bytes))) = simp o at step in
-              rw ends (ap (λ y. onward text k y (λ st. readLines text (k + 1) (at + e + 1) st (split 10 (drop (at + e + 1) bytes)))) x
-              ∙ sym (lines-onward text k (reading m p st cells) bytes at e (line .line) ends-within) ∙ inv)
+              let x : next (reading m p (q .state) cells′) ≡ entered c text at (reading m p st cells) (parse (st .place) (take e (drop at bytes))) = simp o at step in
+              rw ends (ap (λ y. onward text k y (λ st. readLines c text (k + 1) (at + e + 1) st (split 10 (drop (at + e + 1) bytes)))) x
+              ∙ sym (lines-onward c text k (reading m p st cells) bytes at e (line .line) ends-within) ∙ inv)
 
 -- ---- a text: 13, its lines, 22
 
-module _ (m p : List ℕ) (text : ℕ) (s : Signals) (room : ℕ) (fit : Fit s) (bytes : List ℕ) (same : bytes ≡ textOf m p text) (cells : List ℕ) where
-  pub reads-long : 65536 < length bytes → (st : State) → st ≡ freshState s → (r : Told) → r ≡ refusing 13 text 0 st → Reads m p text s room r cells
+module _ (m p : List ℕ) (text : ℕ) (c : Spelling) (s : Signals) (room : ℕ) (fit : Fit s) (bytes : List ℕ) (same : bytes ≡ textOf m p text) (cells : List ℕ) where
+  pub reads-long : 65536 < length bytes → (st : State) → st ≡ freshState s → (r : Told) → r ≡ refusing 13 text 0 st → Reads m p text c s room r cells
   unfolding readFrom
   reads-long h st e r f = rw (f, e) (record { fit = fit; means = rw (← same, lt-ltb 65536 (length bytes) h) })
 
   module _ (short : length bytes ≤ 65536) where
-    pub reads-none : length bytes ≡ 0 → (st : State) → st ≡ freshState s → (r : Told) → r ≡ refusing 22 text 0 st → Reads m p text s room r cells
+    pub reads-none : length bytes ≡ 0 → (st : State) → st ≡ freshState s → (r : Told) → r ≡ refusing 22 text 0 st → Reads m p text c s room r cells
     unfolding readFrom
     reads-none h st e r f = rw (f, e) (record { fit = fit; means = rw (← same, le-ltb 65536 (length bytes) short, nil bytes h) })
       where
@@ -128,7 +128,7 @@ module _ (m p : List ℕ) (text : ℕ) (s : Signals) (room : ℕ) (fit : Fit s) 
         nil [] h = refl
         nil (x ∷ b) h = absurd (omega arith)
 
-    pub reads-lines : (length bytes ≡ 0 → ⊥) → (room′ : ℕ) → room′ ≡ room → (r : Told) → ReadsLines m p text s room′ r cells → Reads m p text s room r cells
+    pub reads-lines : (length bytes ≡ 0 → ⊥) → (room′ : ℕ) → room′ ≡ room → (r : Told) → ReadsLines m p text c s room′ r cells → Reads m p text c s room r cells
     unfolding readFrom
     reads-lines h room′ e r d =
         record { fit = d .fit; means = d .means ∙ rw (← same, le-ltb 65536 (length bytes) short, some bytes h, e) }

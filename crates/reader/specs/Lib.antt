@@ -1,3 +1,4 @@
 pub mod State
 pub mod Replies
 pub mod Places
+pub mod Clashes

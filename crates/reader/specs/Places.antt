@@ -2,6 +2,7 @@
 use mathlib.Core.List.{List}
 use Prim.Native.Nat.{ℕ, _<_}
 use lib.ListN.{length}
+use Rattle.text.specs.declared.Spelling.{Spelling}
 use Rattle.text.specs.Reading.{Signal, Outcome, Joint}
 use Rattle.text.specs.Lookup.{signalOf, numberOf, lookup, lookupNumber, signalAlone, numberAlone, lookupAlone, lookupNumberAlone}
 use Rattle.reader.specs.declared.state.Signals.{Signals}
@@ -25,8 +26,8 @@ pub record Held (s : Signals) (a : ℕ) : Type 0 where
 
 -- ---- with cells enough for any table: so 10 never applies
 
-unfoldable pub found : List ℕ → List ℕ → ℕ → Found
-found m p a = placed (lookup m p a) (lookupNumber m p a)
+unfoldable pub found : Spelling → List ℕ → List ℕ → ℕ → Found
+found c m p a = placed (lookup c m p a) (lookupNumber c m p a)
 
-unfoldable pub foundAlone : List ℕ → ℕ → Found
-foundAlone m a = placed (lookupAlone m a) (lookupNumberAlone m a)
+unfoldable pub foundAlone : Spelling → List ℕ → ℕ → Found
+foundAlone c m a = placed (lookupAlone c m a) (lookupNumberAlone c m a)

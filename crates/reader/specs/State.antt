@@ -9,6 +9,7 @@ use Rattle.theory.specs.declared.Automaton.{Automaton}
 use Rattle.text.specs.declared.Place.{Place}
 use Rattle.text.specs.declared.Place.the-variants.{Head}
 use Rattle.text.specs.declared.Role.{Role}
+use Rattle.text.specs.declared.Spelling.{Spelling}
 use Rattle.text.specs.Fields.{split}
 use Rattle.text.specs.Lines.{parse}
 use Rattle.text.specs.Reading.{Signal, Reading, Result, next, stop, Outcome, finished, ended, Joint, both, neither, indexOf, known, started, declaring, stepping, entered, fresh, readLines, readFrom, readAlone, readBoth}
@@ -18,7 +19,8 @@ use Rattle.line.specs.declared.Line.{Line}
 use Rattle.line.specs.declared.Line.the-variants.{Taken, Refused}
 use Rattle.line.specs.Located.{located}
 use Rattle.signals.specs.declared.Name.{Name}
-use Rattle.signals.specs.Names.{isDeclared, textOf, nameAt}
+use Rattle.text.specs.Reading.{textOf}
+use Rattle.signals.specs.Names.{isDeclared, nameAt}
 use Rattle.reader.specs.declared.state.Signals.{Signals}
 use Rattle.reader.specs.declared.state.State.{State}
 use Rattle.reader.specs.declared.entries.Advanced.{Advanced}
@@ -82,9 +84,9 @@ pub record Starts (st : State) (states initial room : ℕ) (r : Advanced) : Type
   pub sound : Sound (r .state) room
   pub means : (m p cells : List ℕ) → length cells ≡ room → result m p r cells ≡ started (reading m p st cells) states initial
 
-pub record Declares (m p : List ℕ) (st : State) (role : Role) (name : Name) (room : ℕ) (r : Advanced) : Type 0 where
+pub record Declares (m p : List ℕ) (c : Spelling) (st : State) (role : Role) (name : Name) (room : ℕ) (r : Advanced) : Type 0 where
   pub sound : Sound (r .state) room
-  pub means : (cells : List ℕ) → result m p r cells ≡ declaring (reading m p st cells) role (signalAt m p name) (indexOf (nameAt m p name) (signalsOf m p (st .signals)))
+  pub means : (cells : List ℕ) → result m p r cells ≡ declaring c (reading m p st cells) role (signalAt m p name) (indexOf (nameAt m p name) (signalsOf m p (st .signals)))
 
 -- A cell that is there, and a number that fits into it.
 pub record Putable (cells : List ℕ) (at to : ℕ) : Type 0 where
@@ -106,9 +108,9 @@ pub record Says (m p : List ℕ) (text at end : ℕ) (place : Place) (r : Record
   pub inside : InText m p text at end
   pub told : Fields r ≡ located (take (end - at) (drop at (textOf m p text))) (parse place (take (end - at) (drop at (textOf m p text))))
 
-pub record Enters (m p : List ℕ) (text at end : ℕ) (st : State) (cells : List ℕ) (r : Advanced) (cells′ : List ℕ) : Type 0 where
+pub record Enters (m p : List ℕ) (text : ℕ) (c : Spelling) (at end : ℕ) (st : State) (cells : List ℕ) (r : Advanced) (cells′ : List ℕ) : Type 0 where
   pub sound : Sound (r .state) (length cells′)
-  pub means : result m p r cells′ ≡ entered text at (reading m p st cells) (parse (st .place) (take (end - at) (drop at (textOf m p text))))
+  pub means : result m p r cells′ ≡ entered c text at (reading m p st cells) (parse (st .place) (take (end - at) (drop at (textOf m p text))))
 
 -- ---- a text, and two
 
@@ -128,18 +130,18 @@ pub record Blank (s : Signals) (cells : List ℕ) : Type 0 where
   pub fit : Fit s
   pub blank : cells ≡ replicate (length cells) 65535
 
-pub record ReadsLines (m p : List ℕ) (text : ℕ) (s : Signals) (room : ℕ) (r : Told) (cells : List ℕ) : Type 0 where
+pub record ReadsLines (m p : List ℕ) (text : ℕ) (c : Spelling) (s : Signals) (room : ℕ) (r : Told) (cells : List ℕ) : Type 0 where
   pub fit : Fit (r .state .signals)
-  pub means : outcome m p r cells ≡ readLines text 1 0 (fresh (signalsOf m p s) room) (split 10 (textOf m p text))
+  pub means : outcome m p r cells ≡ readLines c text 1 0 (fresh (signalsOf m p s) room) (split 10 (textOf m p text))
 
-pub record Reads (m p : List ℕ) (text : ℕ) (s : Signals) (room : ℕ) (r : Told) (cells : List ℕ) : Type 0 where
+pub record Reads (m p : List ℕ) (text : ℕ) (c : Spelling) (s : Signals) (room : ℕ) (r : Told) (cells : List ℕ) : Type 0 where
   pub fit : Fit (r .state .signals)
-  pub means : outcome m p r cells ≡ readFrom (signalsOf m p s) text room (textOf m p text)
+  pub means : outcome m p r cells ≡ readFrom c (signalsOf m p s) text room (textOf m p text)
 
 -- A text that is read alone.
-pub record ReadsOne (m : List ℕ) (room : ℕ) (r : Told) (cells : List ℕ) : Type 0 where
+pub record ReadsOne (m : List ℕ) (c : Spelling) (room : ℕ) (r : Told) (cells : List ℕ) : Type 0 where
   pub fit : Fit (r .state .signals)
-  pub means : outcome m m r cells ≡ readAlone room m
+  pub means : outcome m m r cells ≡ readAlone c room m
 
 -- Of two texts, the second read after the first.
 abbrev pub joined : Told → Told → Both
@@ -148,6 +150,6 @@ joined a b = record { refused = b .refused; refusal = b .refusal; first = a .sta
 abbrev pub joint : List ℕ → List ℕ → Both → List ℕ → List ℕ → Joint
 joint m p r cells cells′ = cond (r .refused) (neither (r .refusal)) (both (reading m p (r .first) cells) (reading m p (r .second) cells′))
 
-pub record ReadsBoth (m p : List ℕ) (room room′ : ℕ) (r : Both) (cells cells′ : List ℕ) : Type 0 where
+pub record ReadsBoth (m p : List ℕ) (c : Spelling) (room room′ : ℕ) (r : Both) (cells cells′ : List ℕ) : Type 0 where
   pub fit : Fit (r .second .signals)
-  pub means : joint m p r cells cells′ ≡ readBoth room m room′ p
+  pub means : joint m p r cells cells′ ≡ readBoth c room m room′ p

@@ -12,6 +12,7 @@ use line::Record;
 use signals::Name;
 use text::Place;
 use text::Role;
+use text::Spelling;
 use theory::Automaton;
 
 // The state after a line; where the line ends the reading, the number of its refusal.
@@ -94,16 +95,27 @@ fn with_role(header: Automaton, role: Role, signal: usize) -> Automaton
     }
 }
 
-// A declaration: 18, 21. The room is not read: it is that of the state, by the contract.
-fn declare<'a>(m: &'a [u8], p: &'a [u8], st: State, role: Role, name: Name, room: usize) -> Advanced
+// A declaration: 18, 28, 21. The room is not read: it is that of the state, by the contract.
+fn declare<'a>(
+    m: &'a [u8],
+    p: &'a [u8],
+    spelling: Spelling,
+    st: State,
+    role: Role,
+    name: Name,
+    room: usize,
+) -> Advanced
     requires { ⌜ Sound st room ⌝ }
-    ensures { λ r. ⌜ Declares (now (m .entry)) (now (p .entry)) st role name room r ⌝ }
+    ensures { λ r. ⌜ Declares (now (m .entry)) (now (p .entry)) spelling st role name room r ⌝ }
 {
     let signals = st.signals;
     let header = st.header;
-    let number = numbering::number_of(m, p, signals, name);
+    let number = numbering::number_of(m, p, Spelling::Exact, signals, name);
     if signals::is_declared(header, number) {
         return stop(18, st);
+    }
+    if numbering::number_of(m, p, spelling, signals, name) < number {
+        return stop(28, st);
     }
     if 32 <= number {
         return stop(21, st);
@@ -156,7 +168,7 @@ fn step<'a>(
 {
     let signals = st.signals;
     let header = st.header;
-    let number = numbering::number_of(m, p, signals, name);
+    let number = numbering::number_of(m, p, Spelling::Exact, signals, name);
     if lacks(header, from, number, to) {
         return stop(19, st);
     }
@@ -187,6 +199,7 @@ pub fn enter<'a>(
     m: &'a [u8],
     p: &'a [u8],
     text: u8,
+    spelling: Spelling,
     st: State,
     cells: &mut [u16],
     at: usize,
@@ -195,14 +208,14 @@ pub fn enter<'a>(
 ) -> Advanced
     requires { ⌜ Sound st (length (now cells)) ⌝ }
     requires { ⌜ Says (now m) (now p) text at end (st .place) fields ⌝ }
-    ensures { λ r. ⌜ Enters (now (m .entry)) (now (p .entry)) text at end st (now (cells .entry)) r (now (cells .exit)) ⌝ }
+    ensures { λ r. ⌜ Enters (now (m .entry)) (now (p .entry)) text spelling at end st (now (cells .entry)) r (now (cells .exit)) ⌝ }
 {
     match fields {
         Record::Table { states, initial } => start(st, states, initial, cells.len()),
         Record::Declaration(role) => {
             let start = at + line::name_start(role);
             let name = named(text, start, end - start);
-            declare(m, p, st, role, name, cells.len())
+            declare(m, p, spelling, st, role, name, cells.len())
         }
         Record::Step {
             from,

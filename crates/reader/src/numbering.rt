@@ -1,11 +1,12 @@
 // The signals that a reading has numbered so far, by the places of their names.
 ghost use mathlib.Core.Path.{_≡_};
-ghost use Rattle.text.specs.Fields.{same};
-ghost use Rattle.text.specs.Reading.{indexOf};
+ghost use Rattle.text.specs.Fields.{matches};
+ghost use Rattle.text.specs.Reading.{firstMatch};
 ghost use Rattle.signals.specs.Names.{nameAt};
 ghost use Rattle.reader.specs.State.{signalsOf, Fit, Nobody, Addable, Added};
 use crate::state::Signals;
 use signals::Name;
+use text::Spelling;
 
 // No signal.
 pub fn none() -> Signals
@@ -21,9 +22,9 @@ pub fn none() -> Signals
     }
 }
 
-// Whether a name is these bytes. Its length and its last byte tell most names apart, before the part is cut out.
-fn is_named<'a>(m: &'a [u8], p: &'a [u8], name: Name, wanted: &[u8]) -> bool
-    ensures { λ r. ⌜ r ≡ same (nameAt (now (m .entry)) (now (p .entry)) name) (now (wanted .entry)) ⌝ }
+// Whether a name is these bytes in a spelling. Its length and its last byte tell most names apart, before the part is cut out.
+fn is_named<'a>(m: &'a [u8], p: &'a [u8], spelling: Spelling, name: Name, wanted: &[u8]) -> bool
+    ensures { λ r. ⌜ r ≡ matches spelling (nameAt (now (m .entry)) (now (p .entry)) name) (now (wanted .entry)) ⌝ }
 {
     let text = signals::text_of(m, p, name.text as u32);
     let length = name.length as usize;
@@ -33,18 +34,24 @@ fn is_named<'a>(m: &'a [u8], p: &'a [u8], name: Name, wanted: &[u8]) -> bool
             return false;
         }
         if 0 < length {
-            if text[end - 1] != wanted[length - 1] {
+            if scan::spell(spelling, text[end - 1]) != scan::spell(spelling, wanted[length - 1]) {
                 return false;
             }
         }
     }
-    scan::equal(signals::bytes_of(m, p, name), wanted)
+    scan::matches(spelling, signals::bytes_of(m, p, name), wanted)
 }
 
-// The number of a name: that of the first signal that has it, or the next number.
-pub fn number_of<'a>(m: &'a [u8], p: &'a [u8], signals: Signals, name: Name) -> usize
+// Finds the first signal whose name matches in a spelling: its number, or the next number where there is none.
+pub fn number_of<'a>(
+    m: &'a [u8],
+    p: &'a [u8],
+    spelling: Spelling,
+    signals: Signals,
+    name: Name,
+) -> usize
     requires { ⌜ Fit signals ⌝ }
-    ensures { λ r. ⌜ r ≡ indexOf (nameAt (now (m .entry)) (now (p .entry)) name) (signalsOf (now (m .entry)) (now (p .entry)) signals) ⌝ }
+    ensures { λ r. ⌜ r ≡ firstMatch spelling (nameAt (now (m .entry)) (now (p .entry)) name) (signalsOf (now (m .entry)) (now (p .entry)) signals) ⌝ }
 {
     let wanted = signals::bytes_of(m, p, name);
     let names = signals.names;
@@ -52,7 +59,7 @@ pub fn number_of<'a>(m: &'a [u8], p: &'a [u8], signals: Signals, name: Name) -> 
     let mut i: usize = 0;
     while i < count {
         let candidate = names[i];
-        if is_named(m, p, candidate, wanted) {
+        if is_named(m, p, spelling, candidate, wanted) {
             return i;
         }
         i += 1;

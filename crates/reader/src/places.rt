@@ -10,6 +10,7 @@ ghost use Rattle.reader.specs.Places.{placed, foundIn, foundAloneIn, fou
 use crate::Found;
 use crate::state::Signals;
 use crate::texts;
+use text::Spelling;
 use theory::Automaton;
 
 // A refused lookup.
@@ -49,10 +50,17 @@ fn is_either(a: Automaton, b: Automaton, signal: usize) -> bool
 }
 
 // Finds the place in two texts, read together into lent cells; what it leaves in them is open.
-fn find_in<'a>(m: &'a [u8], p: &'a [u8], signal: usize, cm: &mut [u16], cp: &mut [u16]) -> Found
-    ensures { λ r. ⌜ r ≡ foundIn (readBoth (length (now (cm .entry))) (now (m .entry)) (length (now (cp .entry))) (now (p .entry))) signal ⌝ }
+fn find_in<'a>(
+    m: &'a [u8],
+    p: &'a [u8],
+    spelling: Spelling,
+    signal: usize,
+    cm: &mut [u16],
+    cp: &mut [u16],
+) -> Found
+    ensures { λ r. ⌜ r ≡ foundIn (readBoth spelling (length (now (cm .entry))) (now (m .entry)) (length (now (cp .entry))) (now (p .entry))) signal ⌝ }
 {
-    let told = texts::read_both(m, p, cm, cp);
+    let told = texts::read_both(m, p, spelling, cm, cp);
     if told.refused {
         let refusal = told.refusal;
         return nowhere(refusal.number);
@@ -67,10 +75,10 @@ fn find_in<'a>(m: &'a [u8], p: &'a [u8], signal: usize, cm: &mut [u16], cp: &mut
 }
 
 // Finds the place in a text that is read alone.
-fn find_alone_in(m: &[u8], signal: usize, cells: &mut [u16]) -> Found
-    ensures { λ r. ⌜ r ≡ foundAloneIn (readAlone (length (now (cells .entry))) (now (m .entry))) signal ⌝ }
+fn find_alone_in(m: &[u8], spelling: Spelling, signal: usize, cells: &mut [u16]) -> Found
+    ensures { λ r. ⌜ r ≡ foundAloneIn (readAlone spelling (length (now (cells .entry))) (now (m .entry))) signal ⌝ }
 {
-    let told = texts::read_one(m, cells);
+    let told = texts::read_one(m, spelling, cells);
     if told.refused {
         let refusal = told.refusal;
         return nowhere(refusal.number);
@@ -83,20 +91,20 @@ fn find_alone_in(m: &[u8], signal: usize, cells: &mut [u16]) -> Found
     place_of(m, m, signals, signal)
 }
 
-// Finds where a signal's name was first declared in two texts that are read together. It reads into cells of its own, enough for any table, so it
+// Finds where a signal's name was first declared in two texts that are read together in a spelling. It reads into cells of its own, enough for any table, so it
 // is lent none and 10 never applies.
-pub fn find<'a>(m: &'a [u8], p: &'a [u8], signal: usize) -> Found
-    ensures { λ r. ⌜ r ≡ found (now (m .entry)) (now (p .entry)) signal ⌝ }
+pub fn find<'a>(m: &'a [u8], p: &'a [u8], spelling: Spelling, signal: usize) -> Found
+    ensures { λ r. ⌜ r ≡ found spelling (now (m .entry)) (now (p .entry)) signal ⌝ }
 {
     let mut cm = [65535u16; 131072];
     let mut cp = [65535u16; 131072];
-    find_in(m, p, signal, &mut cm, &mut cp)
+    find_in(m, p, spelling, signal, &mut cm, &mut cp)
 }
 
-// Finds where a signal's name was first declared in a text that is read alone, with cells of its own too.
-pub fn find_alone(m: &[u8], signal: usize) -> Found
-    ensures { λ r. ⌜ r ≡ foundAlone (now (m .entry)) signal ⌝ }
+// Finds where a signal's name was first declared in a text that is read alone in a spelling, with cells of its own too.
+pub fn find_alone(m: &[u8], spelling: Spelling, signal: usize) -> Found
+    ensures { λ r. ⌜ r ≡ foundAlone spelling (now (m .entry)) signal ⌝ }
 {
     let mut cells = [65535u16; 131072];
-    find_alone_in(m, signal, &mut cells)
+    find_alone_in(m, spelling, signal, &mut cells)
 }

@@ -3,7 +3,7 @@ ghost use mathlib.Core.Path.{_≡_};
 ghost use mathlib.Core.Bool.{true};
 ghost use Prim.Native.Nat.{_≤_};
 ghost use lib.ListN.{length};
-ghost use Rattle.signals.specs.Names.{textOf};
+ghost use Rattle.text.specs.Reading.{textOf};
 ghost use Rattle.reader.specs.State.{Fit, freshState, Blank, numberIn, ReadsLines, Reads, ReadsOne, joined, ReadsBoth};
 use crate::entries;
 use crate::numbering;
@@ -13,6 +13,7 @@ use crate::state::State;
 use crate::state::Told;
 use line::Line;
 use text::Place;
+use text::Spelling;
 use text::TextRefusal;
 use theory::Automaton;
 
@@ -58,10 +59,17 @@ fn refusal_of(parsed: Line) -> u32
 }
 
 // The lines of a text, into blank cells. After the last LF nothing may stand (14).
-fn read_lines<'a>(m: &'a [u8], p: &'a [u8], text: u8, signals: Signals, cells: &mut [u16]) -> Told
+fn read_lines<'a>(
+    m: &'a [u8],
+    p: &'a [u8],
+    text: u8,
+    spelling: Spelling,
+    signals: Signals,
+    cells: &mut [u16],
+) -> Told
     requires { ⌜ Blank signals (now cells) ⌝ }
     requires { ⌜ length (textOf (now m) (now p) text) ≤ 65536 ⌝ }
-    ensures { λ r. ⌜ ReadsLines (now (m .entry)) (now (p .entry)) text signals (length (now (cells .entry))) r (now (cells .exit)) ⌝ }
+    ensures { λ r. ⌜ ReadsLines (now (m .entry)) (now (p .entry)) text spelling signals (length (now (cells .entry))) r (now (cells .exit)) ⌝ }
 {
     let bytes = signals::text_of(m, p, text as u32);
     let mut st = fresh(signals);
@@ -74,7 +82,7 @@ fn read_lines<'a>(m: &'a [u8], p: &'a [u8], text: u8, signals: Signals, cells: &
             return refuse(refusal_of(parsed), text, line, st);
         };
         let end = at + length;
-        let next = entries::enter(m, p, text, st, cells, at, end, record);
+        let next = entries::enter(m, p, text, spelling, st, cells, at, end, record);
         if next.refused {
             return refuse(next.number, text, line, st);
         }
@@ -95,9 +103,16 @@ fn read_lines<'a>(m: &'a [u8], p: &'a [u8], text: u8, signals: Signals, cells: &
 }
 
 // A text, where some signals are numbered already: 13, then its lines; 22.
-fn read<'a>(m: &'a [u8], p: &'a [u8], text: u8, signals: Signals, cells: &mut [u16]) -> Told
+fn read<'a>(
+    m: &'a [u8],
+    p: &'a [u8],
+    text: u8,
+    spelling: Spelling,
+    signals: Signals,
+    cells: &mut [u16],
+) -> Told
     requires { ⌜ Fit signals ⌝ }
-    ensures { λ r. ⌜ Reads (now (m .entry)) (now (p .entry)) text signals (length (now (cells .entry))) r (now (cells .exit)) ⌝ }
+    ensures { λ r. ⌜ Reads (now (m .entry)) (now (p .entry)) text spelling signals (length (now (cells .entry))) r (now (cells .exit)) ⌝ }
 {
     automaton::clear(cells);
     let bytes = signals::text_of(m, p, text as u32);
@@ -107,14 +122,14 @@ fn read<'a>(m: &'a [u8], p: &'a [u8], text: u8, signals: Signals, cells: &mut [u
     if bytes.len() == 0 {
         return refuse(22, text, 0, fresh(signals));
     }
-    read_lines(m, p, text, signals, cells)
+    read_lines(m, p, text, spelling, signals, cells)
 }
 
 // A text alone: it is the first, and numbers its signals from 0.
-pub fn read_one(m: &[u8], cells: &mut [u16]) -> Told
-    ensures { λ r. ⌜ ReadsOne (now (m .entry)) (length (now (cells .entry))) r (now (cells .exit)) ⌝ }
+pub fn read_one(m: &[u8], spelling: Spelling, cells: &mut [u16]) -> Told
+    ensures { λ r. ⌜ ReadsOne (now (m .entry)) spelling (length (now (cells .entry))) r (now (cells .exit)) ⌝ }
 {
-    read(m, m, 1, numbering::none(), cells)
+    read(m, m, 1, spelling, numbering::none(), cells)
 }
 
 // What came of the first text and of the second. Where the first is refused, nothing is read of the second, and it stands for both.
@@ -133,15 +148,21 @@ fn join(first: Told, second: Told) -> Both
 }
 
 // A module's text to its end, then a plan's, whose signals continue the numbering.
-pub fn read_both<'a>(m: &'a [u8], p: &'a [u8], cm: &mut [u16], cp: &mut [u16]) -> Both
-    ensures { λ r. ⌜ ReadsBoth (now (m .entry)) (now (p .entry)) (length (now (cm .entry))) (length (now (cp .entry))) r (now (cm .exit)) (now (cp .exit)) ⌝ }
+pub fn read_both<'a>(
+    m: &'a [u8],
+    p: &'a [u8],
+    spelling: Spelling,
+    cm: &mut [u16],
+    cp: &mut [u16],
+) -> Both
+    ensures { λ r. ⌜ ReadsBoth (now (m .entry)) (now (p .entry)) spelling (length (now (cm .entry))) (length (now (cp .entry))) r (now (cm .exit)) (now (cp .exit)) ⌝ }
 {
     let none = numbering::none();
-    let first = read(m, p, 1, none, cm);
+    let first = read(m, p, 1, spelling, none, cm);
     if first.refused {
         return join(first, first);
     }
     let state = first.state;
-    let second = read(m, p, 2, state.signals, cp);
+    let second = read(m, p, 2, spelling, state.signals, cp);
     join(first, second)
 }

@@ -23,6 +23,7 @@ use Rattle.theory.proofs.Verdicts as verdicts
 use Rattle.text.specs.declared.TextRefusal.{TextRefusal}
 use Rattle.text.specs.Fields.{onto, split}
 use Rattle.text.specs.Lines.{parse}
+use Rattle.text.specs.declared.Spelling.the-variants.{Folded}
 use Rattle.text.specs.Reading.{Signal, Result, next, stop, Reading, Outcome, finished, ended, Joint, both, neither, onward, entered, isNil, fresh, refuseAt, readLines, readFrom, readAlone, afterFirst, afterSecond, readBoth, tableRead}
 use Rattle.text.specs.Writing.{decimal, tabbed, printed}
 use Rattle.text.proofs.Decimal.{Digits, digits-of}
@@ -133,9 +134,9 @@ module _ (m p : List ℕ) (a b : Table) (cells flags : ℕ) where
 
 -- ---- the line of a refusal; its file and number are constants of the definitions
 
-lineOf : Outcome → ℕ
-lineOf (finished st) = 0
-lineOf (ended r) = r .line
+refusedLine : Outcome → ℕ
+refusedLine (finished st) = 0
+refusedLine (ended r) = r .line
 
 jointLine : Joint → ℕ
 jointLine (both x y) = 0
@@ -153,41 +154,41 @@ split-length b (x ∷ s) = elim (eqb x b) as (λ v. length (cond v ([] ∷ split
   | false ↦ omega (arith, split-length b s, onto-length x (split b s))
 ]
 
-lines-line : (text k at : ℕ) (st : Reading) (ls : List (List ℕ)) → lineOf (readLines text k at st ls) ≤ k + length ls
-unfolding readLines lineOf
+lines-line : (text k at : ℕ) (st : Reading) (ls : List (List ℕ)) → refusedLine (readLines Folded text k at st ls) ≤ k + length ls
+unfolding readLines refusedLine
 lines-line text k at st [] = omega arith
-lines-line text k at st (l ∷ []) = elim (isNil l) as (λ v. lineOf (cond v (finished st) (refuseAt 14 text k)) ≤ k + 1) [ true ↦ omega arith | false ↦ omega arith ]
+lines-line text k at st (l ∷ []) = elim (isNil l) as (λ v. refusedLine (cond v (finished st) (refuseAt 14 text k)) ≤ k + 1) [ true ↦ omega arith | false ↦ omega arith ]
 lines-line text k at st (l ∷ m ∷ ls) =
-    go (entered text at st (parse (st .place) l)) (λ st′. lines-line text (suc k) (at + length l + 1) st′ (m ∷ ls))
+    go (entered Folded text at st (parse (st .place) l)) (λ st′. lines-line text (suc k) (at + length l + 1) st′ (m ∷ ls))
   where
-    go : (r : Result) → ((st′ : Reading) → lineOf (readLines text (suc k) (at + length l + 1) st′ (m ∷ ls)) ≤ suc k + length (m ∷ ls))
-        → lineOf (onward text k r (λ st. readLines text (suc k) (at + length l + 1) st (m ∷ ls))) ≤ k + length (l ∷ m ∷ ls)
+    go : (r : Result) → ((st′ : Reading) → refusedLine (readLines Folded text (suc k) (at + length l + 1) st′ (m ∷ ls)) ≤ suc k + length (m ∷ ls))
+        → refusedLine (onward text k r (λ st. readLines Folded text (suc k) (at + length l + 1) st (m ∷ ls))) ≤ k + length (l ∷ m ∷ ls)
     go (next st′) rest = omega (arith, rest st′)
     go (stop n) rest = omega arith
 
-text-line : (l : List Signal) (text room : ℕ) (s : List ℕ) → lineOf (readFrom l text room s) < 100000
-unfolding readFrom lineOf
+text-line : (l : List Signal) (text room : ℕ) (s : List ℕ) → refusedLine (readFrom Folded l text room s) < 100000
+unfolding readFrom refusedLine
 text-line l text room s = go (ltb 65536 (length s)) refl (isNil s)
   where
     go : (v : Bool) → ltb 65536 (length s) ≡ v → (w : Bool)
-        → lineOf (cond v (refuseAt 13 text 0) (cond w (refuseAt 22 text 0) (readLines text 1 0 (fresh l room) (split 10 s)))) < 100000
+        → refusedLine (cond v (refuseAt 13 text 0) (cond w (refuseAt 22 text 0) (readLines Folded text 1 0 (fresh l room) (split 10 s)))) < 100000
     go true e w = omega arith
     go false e true = omega arith
     go false e false = omega (arith, lines-line text 1 0 (fresh l room) (split 10 s), split-length 10 s, nltb→le 65536 (length s) (rw e tt))
 
 -- A text has 65,536 bytes at most, and so fewer lines than five digits count.
-pub line-small : (c c′ : ℕ) (m p : List ℕ) (r : TextRefusal) → readBoth c m c′ p ≡ neither r → r .line < 100000
-unfolding readBoth readAlone jointLine lineOf
+pub line-small : (c c′ : ℕ) (m p : List ℕ) (r : TextRefusal) → readBoth Folded c m c′ p ≡ neither r → r .line < 100000
+unfolding readBoth readAlone jointLine refusedLine
 line-small c c′ m p r e =
-    let h : jointLine (readBoth c m c′ p) < 100000 = first-then (readFrom [] 1 c m) (text-line [] 1 c m) in
+    let h : jointLine (readBoth Folded c m c′ p) < 100000 = first-then (readFrom Folded [] 1 c m) (text-line [] 1 c m) in
     subst (λ j. jointLine j < 100000) e h
   where
-    second-then : (x : Reading) (o : Outcome) → lineOf o < 100000 → jointLine (afterSecond x o) < 100000
+    second-then : (x : Reading) (o : Outcome) → refusedLine o < 100000 → jointLine (afterSecond x o) < 100000
     second-then x (finished y) h = omega arith
     second-then x (ended r) h = h
 
-    first-then : (o : Outcome) → lineOf o < 100000 → jointLine (afterFirst c′ p o) < 100000
-    first-then (finished x) h = second-then x (readFrom (x .signals) 2 c′ p) (text-line (x .signals) 2 c′ p)
+    first-then : (o : Outcome) → refusedLine o < 100000 → jointLine (afterFirst Folded c′ p o) < 100000
+    first-then (finished x) h = second-then x (readFrom Folded (x .signals) 2 c′ p) (text-line (x .signals) 2 c′ p)
     first-then (ended r) h = h
 
 -- ---- what is left in the lent buffers
@@ -251,7 +252,7 @@ module _ (m p cm cp cells flags : List ℕ) where
   room = roomOf (length cells) (length flags)
 
   abbrev j : Joint
-  j = readBoth (length cm) m (length cp) p
+  j = readBoth Folded (length cm) m (length cp) p
 
   abbrev text : List ℕ
   text = reportText m p (length cm) (length cp) (length cells) (length flags)

@@ -12,6 +12,7 @@ use Rattle.theory.specs.Table.{Table, synthesis, controller, keptCount, stepCou
 use Rattle.theory.specs.Checks.{first, synthesisChecks, tableChecks}
 use Rattle.theory.proofs.Checks.{passed-first, first-part}
 use Rattle.theory.proofs.Tests.{or-left}
+use Rattle.text.specs.declared.Spelling.the-variants.{Folded}
 use Rattle.text.specs.Reading.{Joint, both, neither, readBoth, tableRead}
 use Rattle.text.specs.Writing.{wholeText, textLength, writerChecks}
 use Rattle.labels.specs.Names.{sequencerWord, signalNames}
@@ -24,7 +25,7 @@ text-fits : (t : Table) (name : List ℕ) (names : List (List ℕ)) → first (w
 unfolding writerChecks textLength
 text-fits t name names e =
     let n = textLength t name names in
-    let (_, (_, (_, (c, _)))) = passed-first _ .0 (first-part (tableChecks 1 t) _ e .1) in
+    let (_, (_, (_, (_, (c, _))))) = passed-first _ .0 (first-part (tableChecks 1 t) _ e .1) in
     nltb→le 65536 n (not-T (ltb 65536 n) (λ u. c (or-left (ltb 65536 n) (ltb 65536 n) u)))
 
 module _ (m p : List ℕ) where
@@ -52,7 +53,7 @@ module _ (m p : List ℕ) where
 
   pub report-short : (cm cp cells flags : ℕ) → length (reportText m p cm cp cells flags) ≤ 65608
   unfolding reportText
-  report-short cm cp cells flags = go (readBoth cm m cp p)
+  report-short cm cp cells flags = go (readBoth Folded cm m cp p)
     where
       go : (j : Joint) → length (byReading m p (roomOf cells flags) refusalText (λ x y. resultText m p (tableRead x) (tableRead y)) j) ≤ 65608
       go (both x y) = made-short (tableRead x) (tableRead y) (lentPairs (tableRead x) (tableRead y) (roomOf cells flags))

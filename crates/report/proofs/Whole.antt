@@ -15,6 +15,7 @@ use Rattle.theory.specs.declared.Checked.the-variants.{Accepted, Refused}
 use Rattle.theory.specs.Table.{Table, table, synthesis}
 use Rattle.theory.specs.Checks.{first, unlessRefused}
 use Rattle.text.specs.declared.TextRefusal.{TextRefusal}
+use Rattle.text.specs.declared.Spelling.the-variants.{Folded}
 use Rattle.text.specs.Reading.{Reading, Joint, both, neither, readBoth, cellsFirst, cellsSecond, tableRead}
 use Rattle.text.proofs.Accepted as accepted
 use Rattle.emit.specs.Buffer.{stored, after}
@@ -136,11 +137,11 @@ reports m p cm cp cells flags bytes end bytes′ left (u, v) e =
     let text = reportText m p (length cm) (length cp) (length cells) (length flags) in
     (u, (v, (e, omega (arith, u, within (length bytes) 0 text, report-short m p (length cm) (length cp) (length cells) (length flags)))))
 
-module _ (cm₀ cp₀ m p cm cp : List ℕ) (k : Together) (replied : k ≡ togetherReply (readBoth (length cm₀) m (length cp₀) p))
-    (first-left : cm ≡ cellsFirst (length cm₀) (readBoth (length cm₀) m (length cp₀) p))
-    (second-left : cp ≡ cellsSecond (length cp₀) (readBoth (length cm₀) m (length cp₀) p)) where
+module _ (cm₀ cp₀ m p cm cp : List ℕ) (k : Together) (replied : k ≡ togetherReply (readBoth Folded (length cm₀) m (length cp₀) p))
+    (first-left : cm ≡ cellsFirst (length cm₀) (readBoth Folded (length cm₀) m (length cp₀) p))
+    (second-left : cp ≡ cellsSecond (length cp₀) (readBoth Folded (length cm₀) m (length cp₀) p)) where
   abbrev j : Joint
-  j = readBoth (length cm₀) m (length cp₀) p
+  j = readBoth Folded (length cm₀) m (length cp₀) p
 
   module _ (r : TextRefusal) (no : k ≡ together.Refused r) (cells flags : List ℕ) where
     none : j ≡ neither r
@@ -169,7 +170,7 @@ module _ (cm₀ cp₀ m p cm cp : List ℕ) (k : Together) (replied : k ≡ toge
     y = given .second
 
     sound : accepted.Accepted (length cm₀) (length cp₀) x y
-    sound = accepted.accepted-both (length cm₀) m (length cp₀) p x y (given .are)
+    sound = accepted.accepted-both Folded (length cm₀) m (length cp₀) p x y (given .are)
 
     first-cells : cm ≡ x .cells
     first-cells = first-left ∙ ap (cellsFirst (length cm₀)) (given .are)

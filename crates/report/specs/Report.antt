@@ -8,6 +8,7 @@ use lib.ListN.{length, replicate}
 use Rattle.theory.specs.declared.Checked.{Checked}
 use Rattle.theory.specs.Table.{Table, Composition, synthesis, controller, keptCount, stepCount, endCount}
 use Rattle.theory.specs.Checks.{Check, first, unlessRefused, synthesisChecks}
+use Rattle.text.specs.declared.Spelling.the-variants.{Folded}
 use Rattle.text.specs.Reading.{Reading, Joint, both, neither, readBoth, tableRead}
 use Rattle.text.specs.Writing.{wholeText, writerChecks}
 use Rattle.emit.specs.Buffer.{stored}
@@ -67,7 +68,7 @@ module _ (m p : List ℕ) (room : ℕ) where
 -- All that is printed, where so many cells are lent for module and plan, and so many cells and flags for the result.
 unfoldable pub reportText : List ℕ → List ℕ → (cm cp cells flags : ℕ) → List ℕ
 reportText m p cm cp cells flags =
-    byReading m p (roomOf cells flags) refusalText (λ x y. resultText m p (tableRead x) (tableRead y)) (readBoth cm m cp p)
+    byReading m p (roomOf cells flags) refusalText (λ x y. resultText m p (tableRead x) (tableRead y)) (readBoth Folded cm m cp p)
 
 -- The four lent buffers: for the cells of module and plan, for the result's cells and flags.
 abbrev pub Buffers : Type 0
@@ -80,4 +81,4 @@ reportBuffers m p cm cp cells flags =
     let undone : Buffers = (replicate (length cm) 65535, replicate (length cp) 65535, cells, flags) in
     let result : Reading → Reading → Composition = λ x y. synthesis (tableRead x) (tableRead y) in
     let done : Reading → Reading → Buffers = λ x y. (x .cells, y .cells, stored cells 0 (result x y .cells), stored flags 0 (result x y .flags)) in
-    byReading m p (roomOf (length cells) (length flags)) (λ file number line. undone) done (readBoth (length cm) m (length cp) p)
+    byReading m p (roomOf (length cells) (length flags)) (λ file number line. undone) done (readBoth Folded (length cm) m (length cp) p)

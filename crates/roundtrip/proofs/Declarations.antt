@@ -12,6 +12,7 @@ use Rattle.theory.specs.Valid.{Valid}
 use Rattle.text.specs.declared.Place.the-variants.{Declarations}
 use Rattle.text.specs.declared.Role.{Role}
 use Rattle.text.specs.declared.Role.the-variants.{Input, Output}
+use Rattle.text.specs.declared.Spelling.{Spelling}
 use Rattle.text.specs.Lines.{roleWord, byKind}
 use Rattle.text.specs.Reading.{Signal, Reading, next, indexOf, withRole, known, entered}
 use Rattle.text.specs.Writing.{those, signals, roleOf, nameOf, signalRow}
@@ -19,10 +20,10 @@ use Rattle.text.proofs.Roles.{rolesAt, only, roles-here, roles-there}
 use Rattle.text.proofs.Entries.{declaring-next}
 use Rattle.text.proofs.Accepted.{with-states, with-initial}
 use Rattle.roundtrip.specs.RoundTrip.{place, different}
-use Rattle.roundtrip.proofs.Names.{place-name, number-first, namesIn, index-place, known-names}
+use Rattle.roundtrip.proofs.Names.{Told, told-with, place-name, number-first, namesIn, index-place, index-told, known-names}
 use Rattle.roundtrip.proofs.Lines.{Plain, Reaches, reaches-those}
 use Rattle.roundtrip.proofs.Put.{Put, put-blank, put-next, put-skip}
-use Rattle.roundtrip.proofs.Rows.{Writable, signal-plain, signal-entry}
+use Rattle.roundtrip.proofs.Rows.{Writable, apart-names, signal-plain, signal-entry}
 
 -- The lists of a table at a declared signal are those of its role.
 role-only : (t : Table) (a : ℕ) → Valid t → T (declared t a) → rolesAt (t .header) a ≡ only (roleOf t a)
@@ -52,15 +53,16 @@ module _ (t : Table) (name : List ℕ) (names final : List (List ℕ)) (w : Writ
 
   pub number-apart : (a b : ℕ) → T (declared t a) → T (declared t b) → number a ≡ number b → a ≡ b
   number-apart a b h k e =
-      w .apart a b h k
+      apart-names w a b h k
       (sym (place-name (nameOf names a) final (n .within a h)) ∙ ap (λ i. getD final i []) e ∙ place-name (nameOf names b) final (n .within b k))
 
-  -- The declared signals below p are declared again, the others are left.
-  pub record Declaring (lent : List ℕ) (p : ℕ) (a : Reading) : Type 0 where
+  -- The declared signals below p are declared again, the others are left. No name of the table clashes with one so far.
+  pub record Declaring (c : Spelling) (lent : List ℕ) (p : ℕ) (a : Reading) : Type 0 where
     pub stands : a .place ≡ Declarations
     pub states : a .header .states ≡ t .header .states
     pub initial : a .header .initial ≡ t .header .initial
     pub cells : a .cells ≡ lent
+    pub told : (x : ℕ) → T (declared t x) → Told c (nameOf names x) (namesIn (a .signals))
     pub all : different (namesIn (a .signals)) (map (nameOf names) (those (declared t) p (32 - p))) ≡ final
     pub roles : Put (λ x. x) number (rolesAt (t .header)) (false, false) (λ x. T (declared t x)) p (rolesAt (a .header))
 
@@ -69,9 +71,9 @@ module _ (t : Table) (name : List ℕ) (names final : List (List ℕ)) (w : Writ
   unfolding those
   those-from x h = let e : 32 - x ≡ suc (32 - suc x) = omega arith in rw e
 
-  module _ (text : ℕ) (lent : List ℕ) where
-    one : (x : ℕ) → x < 32 → declared t x ≡ true → (a : Reading) → Declaring lent x a
-        → Plain (signalRow t names x) × ((at : ℕ) → (m : Reading) × (entered text at a (byKind (a .place) (signalRow t names x)) ≡ next m) × Declaring lent (suc x) m)
+  module _ (c : Spelling) (text : ℕ) (lent : List ℕ) where
+    one : (x : ℕ) → x < 32 → declared t x ≡ true → (a : Reading) → Declaring c lent x a
+        → Plain (signalRow t names x) × ((at : ℕ) → (m : Reading) × (entered c text at a (byKind (a .place) (signalRow t names x)) ≡ next m) × Declaring c lent (suc x) m)
     unfolding entered different
     one x h is a u = (signal-plain t name names w x here, λ at. (after at, enter at, next-one at))
       where
@@ -106,17 +108,20 @@ module _ (t : Table) (name : List ℕ) (names final : List (List ℕ)) (w : Writ
         after : ℕ → Reading
         after at = record { place = Declarations; header = withRole r i (a .header); signals = known (a .signals) (signal at) i; cells = a .cells }
 
-        enter : (at : ℕ) → entered text at a (byKind (a .place) (signalRow t names x)) ≡ next (after at)
+        enter : (at : ℕ) → entered c text at a (byKind (a .place) (signalRow t names x)) ≡ next (after at)
         enter at =
-            ap (λ p. entered text at a (byKind p (signalRow t names x))) (u .stands) ∙ ap (entered text at a) (signal-entry t name names w x here)
-            ∙ declaring-next a r (signal at) i (λ d. subst (λ p. T (p .0 || p .1)) free d) low
+            ap (λ p. entered c text at a (byKind p (signalRow t names x))) (u .stands) ∙ ap (entered c text at a) (signal-entry t name names w x here)
+            ∙ declaring-next c a r (signal at) i (λ d. subst (λ p. T (p .0 || p .1)) free d)
+            (index-told c (nameOf names x) (a .signals) (u .told x here)) low
 
-        next-one : (at : ℕ) → Declaring lent (suc x) (after at)
+        next-one : (at : ℕ) → Declaring c lent (suc x) (after at)
         next-one at = record {
           stands = refl;
           states = with-states r i (a .header) ∙ u .states;
           initial = with-initial r i (a .header) ∙ u .initial;
           cells = u .cells;
+          told = λ y d. rw (known-names (a .signals) (signal at))
+              (told-with c (nameOf names y) (namesIn (a .signals)) (nameOf names x) (u .told y d) (λ e. ap (nameOf names) (w .apart c x y here d e)));
           all = ap (λ l. different l rest) (known-names (a .signals) (signal at)) ∙ all;
           roles =
               put-next (λ x. x) number (rolesAt (t .header)) (false, false) (λ x. T (declared t x)) (u .roles) x here refl (λ y h e. number-apart y x h here e) (λ y h e. e)
@@ -124,18 +129,19 @@ module _ (t : Table) (name : List ℕ) (names final : List (List ℕ)) (w : Writ
               (λ j d. roles-there r i (a .header) j low (λ e. d (e ∙ sym i-number)));
         }
 
-    skip : (x : ℕ) → x < 32 → declared t x ≡ false → (a : Reading) → Declaring lent x a → Declaring lent (suc x) a
+    skip : (x : ℕ) → x < 32 → declared t x ≡ false → (a : Reading) → Declaring c lent x a → Declaring c lent (suc x) a
     skip x h fails a u = record {
       stands = u .stands;
       states = u .states;
       initial = u .initial;
       cells = u .cells;
+      told = u .told;
       all = rw (those-from x h, fails) at (u .all);
       roles =
           put-skip (λ x. x) number (rolesAt (t .header)) (false, false) (λ x. T (declared t x)) (u .roles)
           (λ y d e. absurd (let z : T (declared t x) = subst (λ i. T (declared t i)) e d in (rw fails at z)));
     }
 
-    pub declarations : (at : ℕ) (a : Reading) → Declaring lent 0 a → Reaches text (map (signalRow t names) (signals t)) at a (Declaring lent 32)
+    pub declarations : (at : ℕ) (a : Reading) → Declaring c lent 0 a → Reaches c text (map (signalRow t names) (signals t)) at a (Declaring c lent 32)
     unfolding signals
-    declarations at a = reaches-those text (signalRow t names) (declared t) (Declaring lent) 32 one skip 32 0 at a refl
+    declarations at a = reaches-those c text (signalRow t names) (declared t) (Declaring c lent) 32 one skip 32 0 at a refl

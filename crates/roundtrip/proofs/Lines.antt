@@ -6,6 +6,7 @@ use Prim.Native.Nat.{ℕ, zero, suc, _+_, _≤_, _<_}
 use native.Mathlib.Omega.{arith}
 use lib.Dec.{leb}
 use lib.ListN.{length}
+use Rattle.text.specs.declared.Spelling.{Spelling}
 use Rattle.text.specs.Fields.{split, all, nameByte, nameOk, digitByte}
 use Rattle.text.specs.Lines.{parse, byKind}
 use Rattle.text.specs.Reading.{Reading, next, entered, finished, onward, readLines}
@@ -54,11 +55,11 @@ plain-cons f g fs h p = record {
 
 -- ---- lines that lead a reading on
 
-module _ (text : ℕ) where
+module _ (c : Spelling) (text : ℕ) where
   -- From one reading to another, where the first line begins at the byte `at`.
   pub data Runs : List (List (List ℕ)) → ℕ → Reading → Reading → Type 0 where
     done : {at : ℕ} {a : Reading} → Runs [] at a a
-    goes : {l : List (List ℕ)} {ls : List (List (List ℕ))} {at : ℕ} {a m b : Reading} → Plain l → entered text at a (byKind (a .place) l) ≡ next m
+    goes : {l : List (List ℕ)} {ls : List (List (List ℕ))} {at : ℕ} {a m b : Reading} → Plain l → entered c text at a (byKind (a .place) l) ≡ next m
         → Runs ls (at + length (tabbed l) + 1) m b → Runs (l ∷ ls) at a b
 
   -- To some reading with the property P.
@@ -81,7 +82,7 @@ module _ (text : ℕ) where
   -- A line for each number that passes the test: an invariant of the numbers that had their turn leads to the end.
   module _ (row : ℕ → List (List ℕ)) (f : ℕ → Bool) (Before : ℕ → Reading → Type 0) (end : ℕ)
       (one : (x : ℕ) → x < end → f x ≡ true → (a : Reading) → Before x a
-      → Plain (row x) × ((at : ℕ) → (m : Reading) × (entered text at a (byKind (a .place) (row x)) ≡ next m) × Before (suc x) m))
+      → Plain (row x) × ((at : ℕ) → (m : Reading) × (entered c text at a (byKind (a .place) (row x)) ≡ next m) × Before (suc x) m))
       (skip : (x : ℕ) → x < end → f x ≡ false → (a : Reading) → Before x a → Before (suc x) a) where
     pub reaches-those : (n s at : ℕ) (a : Reading) → s + n ≡ end → Before s a → Reaches (map row (those f s n)) at a (Before end)
     unfolding those
@@ -98,16 +99,16 @@ module _ (text : ℕ) where
         go false q rest = rest at a (skip s (omega arith) q a w)
 
   line-first : (k at : ℕ) (a : Reading) (l s : List ℕ)
-      → readLines text k at a (l ∷ split 10 s) ≡ onward text k (entered text at a (parse (a .place) l)) (λ x. readLines text (suc k) (at + length l + 1) x (split 10 s))
+      → readLines c text k at a (l ∷ split 10 s) ≡ onward text k (entered c text at a (parse (a .place) l)) (λ x. readLines c text (suc k) (at + length l + 1) x (split 10 s))
   unfolding readLines
   line-first k at a l s = let (f, fs, e) = split-some 10 s in rw e
 
-  pub runs-read : {ls : List (List (List ℕ))} {at : ℕ} {a b : Reading} (k : ℕ) → Runs ls at a b → readLines text k at a (split 10 (printed ls)) ≡ finished b
+  pub runs-read : {ls : List (List (List ℕ))} {at : ℕ} {a b : Reading} (k : ℕ) → Runs ls at a b → readLines c text k at a (split 10 (printed ls)) ≡ finished b
   unfolding printed readLines split parse
   runs-read k done = refl
   runs-read k (goes {l} {ls} {at} {a} {m} {b} p e r) =
-      ap (readLines text k at a) (split-join 10 (tabbed l) (printed ls) (p .feed))
+      ap (readLines c text k at a) (split-join 10 (tabbed l) (printed ls) (p .feed))
       ∙ line-first k at a (tabbed l) (printed ls)
-      ∙ ap (λ x. onward text k x (λ x. readLines text (suc k) (at + length (tabbed l) + 1) x (split 10 (printed ls))))
-      (ap (λ fs. entered text at a (byKind (a .place) fs)) (p .parts) ∙ e)
+      ∙ ap (λ x. onward text k x (λ x. readLines c text (suc k) (at + length (tabbed l) + 1) x (split 10 (printed ls))))
+      (ap (λ fs. entered c text at a (byKind (a .place) fs)) (p .parts) ∙ e)
       ∙ runs-read (suc k) r

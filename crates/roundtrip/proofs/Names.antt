@@ -1,4 +1,4 @@
--- The numbers of names: their places among the different names so far.
+-- The numbers of names: their places among the different names so far; and names that match in a spelling.
 use mathlib.Core.Path.{_≡_, refl, sym, ap, _∙_}
 use mathlib.Core.Bool.{Bool, true, false, cond}
 use mathlib.Core.List.{List, [], _∷_, _++_, map, append-nil, append-assoc, map-append}
@@ -9,9 +9,11 @@ use native.Mathlib.Decide.{decLt}
 use lib.Dec.{ltb}
 use lib.ListN.{length, getD, length-append, length-map}
 use borrow.Author.Tests.{eq-eqb, ne-eqb, lt-ltb, le-ltb}
-use Rattle.text.specs.Fields.{same}
-use Rattle.text.specs.Reading.{Signal, indexOf, known}
-use Rattle.text.proofs.Names.{same-self, same-eq, same-not, index-le, index-append, index-put}
+use Rattle.text.specs.declared.Spelling.{Spelling}
+use Rattle.text.specs.declared.Spelling.the-variants.{Exact}
+use Rattle.text.specs.Fields.{matches, same}
+use Rattle.text.specs.Reading.{Signal, firstMatch, indexOf, known}
+use Rattle.text.proofs.Names.{match-self, same-eq, same-not, index-le, index-append, index-put}
 use Rattle.text.proofs.Ascending.{In, Ascending, in-above}
 use Rattle.roundtrip.specs.RoundTrip.{rank, place, with, different}
 
@@ -22,17 +24,17 @@ signal n = record { name = n; text = 0; from = 0 }
 
 -- It is the number that the name has among signals.
 place-index : (n : List ℕ) (l : List (List ℕ)) → place n l ≡ indexOf n (map signal l)
-unfolding signal indexOf place
+unfolding signal firstMatch place
 place-index n [] = refl
 place-index n (m ∷ l) = rw (place-index n l)
 
 place-le : (n : List ℕ) (l : List (List ℕ)) → place n l ≤ length l
-place-le n l = omega (arith, place-index n l, index-le n (map signal l), length-map l signal)
+place-le n l = omega (arith, place-index n l, index-le Exact n (map signal l), length-map l signal)
 
 place-append : (n : List ℕ) (l m : List (List ℕ)) → place n l < length l → place n (l ++ m) ≡ place n l
 place-append n l m h =
     rw (place-index n (l ++ m), place-index n l, map-append signal l m)
-    (index-append n (map signal l) (map signal m) (omega (arith, place-index n l, length-map l signal)))
+    (index-append Exact n (map signal l) (map signal m) (omega (arith, place-index n l, length-map l signal)))
 
 place-put : (n : List ℕ) (l : List (List ℕ)) → place n (l ++ n ∷ []) ≡ place n l
 unfolding signal
@@ -140,10 +142,29 @@ module _ (nm : ℕ → List ℕ) where
   pub rank-place : (s a : ℕ) (ds : List ℕ) → Ascending s ds → Distinct ds → In a ds → place (nm a) (map nm ds) ≡ rank a ds
   unfolding place rank
   rank-place s a [] u w i = absurd i
-  rank-place s a (d ∷ ds) u w (inl e) = rw (e, same-self (nm a), eq-eqb a a refl)
+  rank-place s a (d ∷ ds) u w (inl e) = rw (e, match-self Exact (nm a), eq-eqb a a refl)
   rank-place s a (d ∷ ds) u w (inr i) =
       rw (same-not (nm d) (nm a) (distinct-other s d a ds u w i), ne-eqb d a (λ e. omega (arith, in-above a (suc d) ds (u .1) i)))
       (ap suc (rank-place (suc d) a ds (u .1) (λ a b h k. w a b (inr h) (inr k)) i))
+
+-- ---- names that match
+
+-- Of the names in a list only n itself matches n.
+abbrev pub Told : Spelling → List ℕ → List (List ℕ) → Type 0
+Told c n [] = Unit {0}
+Told c n (m ∷ l) = (matches c m n ≡ true → m ≡ n) × Told c n l
+
+told-append : (c : Spelling) (n : List ℕ) (l m : List (List ℕ)) → Told c n l → Told c n m → Told c n (l ++ m)
+told-append c n [] m u v = v
+told-append c n (x ∷ l) m (h, u) v = (h, told-append c n l m u v)
+
+pub told-with : (c : Spelling) (n : List ℕ) (l : List (List ℕ)) (m : List ℕ) → Told c n l → (matches c m n ≡ true → m ≡ n) → Told c n (with l m)
+told-with c n l m u h =
+    elim (ltb (place m l) (length l)) as (λ b. Told c n (cond b l (l ++ m ∷ []))) [ true ↦ u | false ↦ told-append c n l (m ∷ []) u (h, tt) ]
+
+pub told-map : (c : Spelling) (n : List ℕ) (nm : ℕ → List ℕ) (ds : List ℕ) → ((a : ℕ) → In a ds → matches c (nm a) n ≡ true → nm a ≡ n) → Told c n (map nm ds)
+told-map c n nm [] h = tt
+told-map c n nm (d ∷ ds) h = (h d (inl refl), told-map c n nm ds (λ a i. h a (inr i)))
 
 -- ---- signals by their names
 
@@ -151,9 +172,19 @@ abbrev pub namesIn : List Signal → List (List ℕ)
 namesIn l = map (λ s. s .name) l
 
 pub index-place : (n : List ℕ) (l : List Signal) → indexOf n l ≡ place n (namesIn l)
-unfolding indexOf place
+unfolding firstMatch place
 index-place n [] = refl
 index-place n (s ∷ l) = rw (index-place n l)
+
+-- A name that is told from the signals' names does not match one of a lower number.
+pub index-told : (c : Spelling) (n : List ℕ) (l : List Signal) → Told c n (namesIn l) → indexOf n l ≤ firstMatch c n l
+unfolding firstMatch
+index-told c n [] u = omega arith
+index-told c n (s ∷ l) (h, u) = go (matches c (s .name) n) refl (index-told c n l u)
+  where
+    go : (b : Bool) → matches c (s .name) n ≡ b → indexOf n l ≤ firstMatch c n l → cond (same (s .name) n) 0 (suc (indexOf n l)) ≤ cond b 0 (suc (firstMatch c n l))
+    go true e ih = rw (h e, match-self Exact n) (omega arith)
+    go false e ih = elim (same (s .name) n) as (λ b. cond b 0 (suc (indexOf n l)) ≤ suc (firstMatch c n l)) [ true ↦ omega arith | false ↦ omega (arith, ih) ]
 
 pub known-names : (l : List Signal) (s : Signal) → namesIn (known l s (indexOf (s .name) l)) ≡ with (namesIn l) (s .name)
 known-names l s = rw (← index-place (s .name) l, length-map l (λ s. s .name)) (go (ltb (indexOf (s .name) l) (length l)))

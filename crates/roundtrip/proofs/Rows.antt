@@ -1,5 +1,5 @@
 -- The lines that the writer prints: each is cut into its fields again, and says what it should.
-use mathlib.Core.Path.{_≡_, refl, sym}
+use mathlib.Core.Path.{_≡_, refl, _∙_}
 use mathlib.Core.Bool.{true, not, _&&_}
 use mathlib.Core.List.{List, [], _∷_}
 use Prim.Native.Nat.{ℕ, _≤_, _<_}
@@ -20,11 +20,13 @@ use Rattle.text.specs.declared.Place.{Place}
 use Rattle.text.specs.declared.Place.the-variants.{Head, Declarations}
 use Rattle.text.specs.declared.Role.{Role}
 use Rattle.text.specs.declared.Role.the-variants.{Input, Output}
-use Rattle.text.specs.Fields.{upto, same, nameOk, numberOk, value}
+use Rattle.text.specs.declared.Spelling.{Spelling}
+use Rattle.text.specs.declared.Spelling.the-variants.{Exact, Folded}
+use Rattle.text.specs.Fields.{upto, matches, nameOk, numberOk, value}
 use Rattle.text.specs.Lines.{table, declaration, step, tableWord, roleWord, stepWord, takesStep, byKind, tableLine, declarationLine, stepLine}
-use Rattle.text.specs.Writing.{decimal, roleOf, nameOf, tableRow, signalRow, stepRow, textLength, writerChecks}
+use Rattle.text.specs.Writing.{decimal, roleOf, nameOf, tableRow, signalRow, stepRow, textLength, ambiguous, writerChecks}
 use Rattle.text.proofs.Decimal.{decimal-ok, decimal-value}
-use Rattle.text.proofs.Names.{same-self}
+use Rattle.text.proofs.Names.{match-self, match-sym}
 use Rattle.text.proofs.Entries.{is-false}
 use Rattle.roundtrip.proofs.Lines.{Field, name-field, number-field, Plain, plain-last, plain-cons}
 
@@ -34,28 +36,34 @@ pub record Writable (t : Table) (name : List ℕ) (names : List (List ℕ)) : Ty
   pub valid : Valid t
   pub titled : nameOk name ≡ true
   pub named : (a : ℕ) → T (declared t a) → nameOk (nameOf names a) ≡ true
-  pub apart : (a b : ℕ) → T (declared t a) → T (declared t b) → nameOf names a ≡ nameOf names b → a ≡ b
+  pub apart : (c : Spelling) (a b : ℕ) → T (declared t a) → T (declared t b) → matches c (nameOf names a) (nameOf names b) ≡ true → a ≡ b
   pub short : textLength t name names ≤ 65536
 
 pub writable : (t : Table) (name : List ℕ) (names : List (List ℕ)) (room : ℕ) → first (writerChecks t name names room) ≡ Accepted → Writable t name names
 unfolding writerChecks
 writable t name names room e =
     let (c, d) = first-part (tableChecks 1 t) _ e in
-    let (titled, (misnamed, (ambiguous, (tooLong, _)))) = passed-first _ .0 d in
-    let unlike : (a b : ℕ) → b < a → T (declared t a) → T (declared t b) → ¬ (nameOf names a ≡ nameOf names b) =
-    λ a b l h k q.
-    ambiguous (at-any 32 _ a (table-narrow t a h) (at-any a _ b l (and-both (declared t a && declared t b) _ (and-both (declared t a) _ h k)
-    (rw (q, same-self (nameOf names b)) tt)))) in
+    let (titled, (misnamed, (equal, (clashing, (tooLong, _))))) = passed-first _ .0 d in
+    let clear : (c : Spelling) → ¬ T (ambiguous t name names c) = λ c. elim c as (λ c. ¬ T (ambiguous t name names c)) [ Exact ↦ equal | Folded ↦ clashing ] in
+    let unlike : (c : Spelling) (a b : ℕ) → b < a → T (declared t a) → T (declared t b) → ¬ (matches c (nameOf names a) (nameOf names b) ≡ true) =
+    λ c a b l h k q.
+    clear c (at-any 32 _ a (table-narrow t a h) (at-any a _ b l (and-both (declared t a && declared t b) _ (and-both (declared t a) _ h k)
+    (rw q tt)))) in
     record {
       valid = checks-valid 1 t .0 c;
       titled = not-false (nameOk name) (is-false (not (nameOk name)) titled);
       named = λ a h. not-false (nameOk (nameOf names a)) (is-false (not (nameOk (nameOf names a))) (λ n. misnamed (at-any 32 _ a (table-narrow t a h) (and-both (declared t a) _ h n))));
-      apart = λ a b h k q. elim (decLt b a) [
-        | yes l ↦ absurd (unlike a b l h k q)
-        | no g ↦ elim (decLt a b) [ yes l ↦ absurd (unlike b a l k h (sym q)) | no f ↦ omega arith ]
+      apart = λ c a b h k q. elim (decLt b a) [
+        | yes l ↦ absurd (unlike c a b l h k q)
+        | no g ↦ elim (decLt a b) [ yes l ↦ absurd (unlike c b a l k h (match-sym c (nameOf names b) (nameOf names a) ∙ q)) | no f ↦ omega arith ]
       ];
       short = search (nltb→le, not-T, or-right);
     }
+
+-- Two signals do not have the same name.
+pub apart-names : {t : Table} {name : List ℕ} {names : List (List ℕ)} → Writable t name names → (a b : ℕ) → T (declared t a) → T (declared t b) → nameOf names a ≡ nameOf names b
+    → a ≡ b
+apart-names {names = names} w a b h k e = w .apart Exact a b h k (rw e (match-self Exact (nameOf names b)))
 
 -- ---- the entries of lines
 
@@ -63,17 +71,17 @@ number-two : (a b : ℕ) → a ≤ 65535 → b ≤ 65535 → (numberOk (decimal 
 number-two a b h k = rw (decimal-ok a h, decimal-ok b k)
 
 kind-table : (n a b : List ℕ) → nameOk n ≡ true → (numberOk a && numberOk b) ≡ true → byKind Head (tableWord ∷ n ∷ a ∷ b ∷ []) ≡ table (value a) (value b)
-unfolding byKind tableLine same
+unfolding byKind tableLine matches
 kind-table n a b h k = rw (h, k)
 
 kind-declaration : (r : Role) (n : List ℕ) → nameOk n ≡ true → byKind Declarations (roleWord r ∷ n ∷ []) ≡ declaration r n
-unfolding byKind declarationLine same
+unfolding byKind declarationLine matches
 kind-declaration Input n h = rw h
 kind-declaration Output n h = rw h
 
 kind-step : (p : Place) (a n b : List ℕ) → takesStep p ≡ true → nameOk n ≡ true → (numberOk a && numberOk b) ≡ true
     → byKind p (stepWord ∷ a ∷ n ∷ b ∷ []) ≡ step (value a) n (value b)
-unfolding byKind stepLine same
+unfolding byKind stepLine matches
 kind-step p a n b e h k = rw (e, h, k)
 
 -- ---- the rows of a table

@@ -18,6 +18,7 @@ use Rattle.theory.specs.Checks.{declared}
 use Rattle.theory.proofs.Options.{is-some, when-of}
 use Rattle.theory.proofs.Table.{table-narrow}
 use Rattle.text.specs.declared.Place.the-variants.{Steps}
+use Rattle.text.specs.declared.Spelling.{Spelling}
 use Rattle.text.specs.Lines.{takesStep, byKind}
 use Rattle.text.specs.Reading.{Signal, Reading, next, indexOf, stepping, entered}
 use Rattle.text.specs.Writing.{nameOf, stepRow, stepRows, hasStep, enabledSignals}
@@ -86,7 +87,7 @@ module _ (t : Table) (name : List ℕ) (names final : List (List ℕ)) (w : Writ
     | inr l ↦ let z : T (hasStep t s a) = rw (lt-ltb a 32 k, lt-ltb (cellAt t s a) states l) tt in absurd (rw fails at z)
   ]
 
-  module _ (text : ℕ) (h : Automaton) (l : List Signal) (room : ℕ) (fits : states * 32 ≤ room) (same-states : h .states ≡ states)
+  module _ (c : Spelling) (text : ℕ) (h : Automaton) (l : List Signal) (room : ℕ) (fits : states * 32 ≤ room) (same-states : h .states ≡ states)
       (roles : (a : ℕ) → T (declared t a) → T (declared (tableOf h []) (numberIn names final a))) (all : namesIn l ≡ final) where
     -- The steps whose turn was before p are read.
     pub record Stepping (p : ℕ) (a : Reading) : Type 0 where
@@ -101,7 +102,7 @@ module _ (t : Table) (name : List ℕ) (names final : List (List ℕ)) (w : Writ
       At x = Stepping (s * 32 + x)
 
       one : (x : ℕ) → x < 32 → hasStep t s x ≡ true → (a : Reading) → At x a
-          → Plain (stepRow t names s x) × ((at : ℕ) → (m : Reading) × (entered text at a (byKind (a .place) (stepRow t names s x)) ≡ next m) × At (suc x) m)
+          → Plain (stepRow t names s x) × ((at : ℕ) → (m : Reading) × (entered c text at a (byKind (a .place) (stepRow t names s x)) ≡ next m) × At (suc x) m)
       unfolding entered
       one x low is a u = (step-plain t name names w x known s state below, λ at. (after, enter at, rw (add-suc (s * 32) x) next-one))
         where
@@ -129,9 +130,9 @@ module _ (t : Table) (name : List ℕ) (names final : List (List ℕ)) (w : Writ
           after : Reading
           after = record { place = Steps; header = a .header; signals = a .signals; cells = set (a .cells) (cellIn names final k) (cellAt t s x) }
 
-          enter : (at : ℕ) → entered text at a (byKind (a .place) (stepRow t names s x)) ≡ next after
+          enter : (at : ℕ) → entered c text at a (byKind (a .place) (stepRow t names s x)) ≡ next after
           enter at =
-              ap (entered text at a) (step-entry t name names w x known s state below (a .place) (u .stands))
+              ap (entered c text at a) (step-entry t name names w x known s state below (a .place) (u .stands))
               ∙ ap (λ j. stepping a s j (cellAt t s x)) i-number
               ∙ stepping-next a s (numberIn names final x) (cellAt t s x) (rw (u .header) (roles x known))
               (rw (u .header, same-states) state) (rw (u .header, same-states) below) free
@@ -159,12 +160,12 @@ module _ (t : Table) (name : List ℕ) (names final : List (List ℕ)) (w : Writ
             (λ k g e. ap (cellOf t) (turn-apart s x low k g e) ∙ unwritten s x state low fails);
       })
 
-    pub steps : (n s at : ℕ) (a : Reading) → s + n ≡ states → Stepping (s * 32) a → Reaches text (stepRows t names s n) at a (Stepping (states * 32))
+    pub steps : (n s at : ℕ) (a : Reading) → s + n ≡ states → Stepping (s * 32) a → Reaches c text (stepRows t names s n) at a (Stepping (states * 32))
     unfolding stepRows enabledSignals
     steps zero s at a e u = let f : s ≡ states = omega arith in record { end = a; runs = done; holds = rw f at u }
     steps (suc n) s at a e u =
         let h : s < states = omega arith in
         let z : s * 32 + 0 ≡ s * 32 = omega arith in
         let q : s * 32 + 32 ≡ suc s * 32 = omega arith in
-        reaches-then text (reaches-those text (stepRow t names s) (hasStep t s) (At s h) 32 (one s h) (skip s h) 32 0 at a refl (rw z u))
+        reaches-then c text (reaches-those c text (stepRow t names s) (hasStep t s) (At s h) 32 (one s h) (skip s h) 32 0 at a refl (rw z u))
         (λ b r at. steps n (suc s) at b (omega arith) (rw q at r))

@@ -12,19 +12,22 @@ use Rattle.theory.specs.Table.{Table}
 use Rattle.theory.specs.Checks.{first, declared}
 use Rattle.theory.specs.Valid.{Valid}
 use Rattle.theory.proofs.Tests.{or-left, or-right}
+use Rattle.text.specs.declared.Spelling.{Spelling}
+use Rattle.text.specs.declared.Spelling.the-variants.{Exact}
 use Rattle.text.specs.Reading.{Reading, finished, readAlone, both, afterFirst, afterSecond, readBoth, tableRead}
 use Rattle.text.specs.Writing.{signals, nameOf, wholeText, writerChecks, textLength, writerBytes}
 use Rattle.text.specs.Lookup.{ample, nobody, declares, lookup, lookupNumber, lookupAlone, lookupNumberAlone}
+use Rattle.text.proofs.Names.{same-eq}
 use Rattle.text.proofs.Ascending.{those-few}
 use Rattle.text.proofs.Written.{signals-ascending, written-text}
 use Rattle.text.proofs.Entries.{is-true}
 use Rattle.text.proofs.Accepted.{Sound, accepted, accepted-valid}
-use Rattle.roundtrip.specs.RoundTrip.{rank, rankOf, RoundTrip, namesOf, place, different, allNames, JointTrip}
-use Rattle.roundtrip.proofs.Names.{place-name, different-begins, begins-place, number-within, different-distinct, rank-place, namesIn}
+use Rattle.roundtrip.specs.RoundTrip.{rank, rankOf, RoundTrip, namesOf, place, different, allNames, NoClashBetween, JointTrip}
+use Rattle.roundtrip.proofs.Names.{Told, told-map, place-name, different-begins, begins-place, number-within, different-distinct, rank-place, namesIn}
 use Rattle.roundtrip.proofs.Rows.{Writable, writable}
 use Rattle.roundtrip.proofs.Declarations.{numberIn, Numbered}
 use Rattle.roundtrip.proofs.Same.{copy-declares, copy-name, copy-again}
-use Rattle.roundtrip.proofs.Trip.{signals-distinct, declared-in, Copy, trip-from}
+use Rattle.roundtrip.proofs.Trip.{signals-distinct, declared-in, in-declared, Copy, trip-from}
 
 -- ---- a text alone
 
@@ -45,47 +48,55 @@ module _ (t : Table) (name : List ℕ) (names : List (List ℕ)) (w : Writable t
   rank-number : (a : ℕ) → T (declared t a) → rank a (signals t) ≡ numberIn names (namesOf t names) a
   rank-number a d = sym (rank-place (nameOf names) 0 a (signals t) (signals-ascending t) (signals-distinct t w) (declared-in t a d))
 
-  read-alone : (cells : ℕ) → t .header .states * 32 ≤ cells
-      → (st : Reading) × (readAlone cells (wholeText t name names) ≡ finished st) × Copy t names (namesOf t names) st
-  unfolding readAlone
-  read-alone cells fits =
-      let few : length (different [] (namesOf t names)) ≤ 32 = rw all-new signals-few in
-      rw all-new at (trip-from t name names w [] 1 cells fits few)
+  module _ (c : Spelling) where
+    read-alone : (cells : ℕ) → t .header .states * 32 ≤ cells
+        → (st : Reading) × (readAlone c cells (wholeText t name names) ≡ finished st) × Copy t names (namesOf t names) st
+    unfolding readAlone
+    read-alone cells fits =
+        let few : length (different [] (namesOf t names)) ≤ 32 = rw all-new signals-few in
+        rw all-new at (trip-from c t name names w [] (λ a d. tt) 1 cells fits few)
 
-  -- Looking a number up.
-  found-alone : (a : ℕ) → T (declared t a)
-      → (lookupAlone (wholeText t name names) (rank a (signals t)) .name ≡ nameOf names a)
-      × (lookupNumberAlone (wholeText t name names) (rank a (signals t)) ≡ 0)
-  unfolding lookupAlone lookupNumberAlone
-  found-alone a d =
-      let (st, e, c) = read-alone ample (omega (arith, w .valid .few-states)) in
-      let i = numberIn names (namesOf t names) a in
-      let h : declares st i ≡ true = is-true (declares st i) (copy-declares t names (namesOf t names) alone-numbered st c a d) in (
-        rw (e, rank-number a d, h) (copy-name t names (namesOf t names) alone-numbered st c a d),
-        rw (e, rank-number a d, h),
-      )
+    -- Looking a number up.
+    found-alone : (a : ℕ) → T (declared t a)
+        → (lookupAlone c (wholeText t name names) (rank a (signals t)) .name ≡ nameOf names a)
+        × (lookupNumberAlone c (wholeText t name names) (rank a (signals t)) ≡ 0)
+    unfolding lookupAlone lookupNumberAlone
+    found-alone a d =
+        let (st, e, k) = read-alone ample (omega (arith, w .valid .few-states)) in
+        let i = numberIn names (namesOf t names) a in
+        let h : declares st i ≡ true = is-true (declares st i) (copy-declares t names (namesOf t names) alone-numbered st k a d) in (
+          rw (e, rank-number a d, h) (copy-name t names (namesOf t names) alone-numbered st k a d),
+          rw (e, rank-number a d, h),
+        )
 
-  trip : (cells : ℕ) → t .header .states * 32 ≤ cells → RoundTrip t names cells (wholeText t name names)
-  unfolding readAlone
-  trip cells fits =
-      let (st, e, c) = read-alone cells fits in
-      record {
-        reading = st;
-        read = e;
-        again =
-            copy-again t names (namesOf t names) alone-numbered st c (accepted-valid [] cells st (accepted [] 1 cells (wholeText t name names) st (omega arith) e))
-            (lookupAlone (wholeText t name names)) (lookupNumberAlone (wholeText t name names)) (rankOf t) rank-number found-alone;
-      }
+    trip : (cells : ℕ) → t .header .states * 32 ≤ cells → RoundTrip c t names cells (wholeText t name names)
+    unfolding readAlone
+    trip cells fits =
+        let (st, e, k) = read-alone cells fits in
+        record {
+          reading = st;
+          read = e;
+          again =
+              copy-again t names (namesOf t names) alone-numbered st k (accepted-valid [] cells st (accepted c [] 1 cells (wholeText t name names) st (omega arith) e))
+              (lookupAlone c (wholeText t name names)) (lookupNumberAlone c (wholeText t name names)) (rankOf t) rank-number found-alone;
+        }
 
--- All that the writer takes is read back.
-pub round-trip : (t : Table) (name : List ℕ) (names : List (List ℕ)) (room : ℕ) → first (writerChecks t name names room) ≡ Accepted
-    → (cells : ℕ) → t .header .states * 32 ≤ cells → RoundTrip t names cells (wholeText t name names)
-round-trip t name names room e cells fits = trip t name names (writable t name names room e) cells fits
+-- All that the writer takes is read back, in any spelling: by the reading and by the archive reading.
+pub round-trip : (c : Spelling) (t : Table) (name : List ℕ) (names : List (List ℕ)) (room : ℕ) → first (writerChecks t name names room) ≡ Accepted
+    → (cells : ℕ) → t .header .states * 32 ≤ cells → RoundTrip c t names cells (wholeText t name names)
+round-trip c t name names room e cells fits = trip t name names (writable t name names room e) c cells fits
+
+-- By the writer's contract: what it leaves in the lent bytes.
+pub written-trip : (c : Spelling) (t : Table) (name : List ℕ) (names : List (List ℕ)) (bytes : List ℕ)
+    → first (writerChecks t name names (length bytes)) ≡ Accepted → (cells : ℕ) → t .header .states * 32 ≤ cells
+    → RoundTrip c t names cells (take (textLength t name names) (writerBytes t name names bytes))
+written-trip c t name names bytes e cells fits = rw (written-text t name names bytes e _ refl) (round-trip c t name names (length bytes) e cells fits)
 
 -- ---- a module's and a plan's text together
 
-module _ (m : Table) (name : List ℕ) (names : List (List ℕ)) (w : Writable m name names)
-    (p : Table) (name′ : List ℕ) (names′ : List (List ℕ)) (w′ : Writable p name′ names′) (few : length (allNames m names p names′) ≤ 32) where
+module _ (c : Spelling) (m : Table) (name : List ℕ) (names : List (List ℕ)) (w : Writable m name names)
+    (p : Table) (name′ : List ℕ) (names′ : List (List ℕ)) (w′ : Writable p name′ names′) (few : length (allNames m names p names′) ≤ 32)
+    (unlike : NoClashBetween c m names p names′) where
   abbrev all : List (List ℕ)
   all = allNames m names p names′
 
@@ -104,10 +115,14 @@ module _ (m : Table) (name : List ℕ) (names : List (List ℕ)) (w : Writable m
       let (e, l) = begins-place (different-begins (namesOf m names) (namesOf p names′)) (nameOf names a) (alone-numbered m name names w .within a d) in
       (e ∙ sym (rank-number m name names w a d), l)
 
+  -- A name of the plan is told from the module's.
+  told-first : (b : ℕ) → T (declared p b) → Told c (nameOf names′ b) (namesOf m names)
+  told-first b d = told-map c (nameOf names′ b) (nameOf names) (signals m) (λ a i. unlike a b (in-declared m a i) d)
+
   record Readings (cells cells′ : ℕ) : Type 0 where
     first : Reading
     second : Reading
-    read : readBoth cells text cells′ text′ ≡ both first second
+    read : readBoth c cells text cells′ text′ ≡ both first second
     first-copy : Copy m names (namesOf m names) first
     second-copy : Copy p names′ all second
     first-valid : Valid (tableRead first)
@@ -116,23 +131,23 @@ module _ (m : Table) (name : List ℕ) (names : List (List ℕ)) (w : Writable m
   read-both : (cells cells′ : ℕ) → m .header .states * 32 ≤ cells → p .header .states * 32 ≤ cells′ → Readings cells cells′
   unfolding readBoth readAlone
   read-both cells cells′ fits fits′ =
-      let (x, e, c) = read-alone m name names w cells fits in
-      let few′ : length (different (namesIn (x .signals)) (namesOf p names′)) ≤ 32 = rw (c .listed) few in
-      let (y, f, d) = trip-from p name′ names′ w′ (x .signals) 2 cells′ fits′ few′ in
-      let u : Sound [] cells x = accepted [] 1 cells text x (omega arith) e in
+      let (x, e, k) = read-alone m name names w c cells fits in
+      let few′ : length (different (namesIn (x .signals)) (namesOf p names′)) ≤ 32 = rw (k .listed) few in
+      let (y, f, d) = trip-from c p name′ names′ w′ (x .signals) (λ b d. rw (k .listed) (told-first b d)) 2 cells′ fits′ few′ in
+      let u : Sound [] cells x = accepted c [] 1 cells text x (omega arith) e in
       record {
         first = x;
         second = y;
-        read = ap (afterFirst cells′ text′) e ∙ ap (afterSecond x) f;
-        first-copy = c;
-        second-copy = rw (c .listed) at d;
+        read = ap (afterFirst c cells′ text′) e ∙ ap (afterSecond x) f;
+        first-copy = k;
+        second-copy = rw (k .listed) at d;
         first-valid = accepted-valid [] cells x u;
-        second-valid = accepted-valid (x .signals) cells′ y (accepted (x .signals) 2 cells′ text′ y (u .few-signals) f);
+        second-valid = accepted-valid (x .signals) cells′ y (accepted c (x .signals) 2 cells′ text′ y (u .few-signals) f);
       }
 
   -- Looking up a number that is declared gives the name that stands there.
   abbrev Found : ℕ → List ℕ → Type 0
-  Found b n = (lookup text text′ b .name ≡ n) × (lookupNumber text text′ b ≡ 0)
+  Found b n = (lookup c text text′ b .name ≡ n) × (lookupNumber c text text′ b ≡ 0)
 
   ample-readings : Readings ample ample
   ample-readings = read-both ample ample (omega (arith, w .valid .few-states)) (omega (arith, w′ .valid .few-states))
@@ -171,7 +186,7 @@ module _ (m : Table) (name : List ℕ) (names : List (List ℕ)) (w : Writable m
         (λ q. sym f ∙ ap (λ n. place n all) q),
       )
 
-  trip-both : (cells cells′ : ℕ) → m .header .states * 32 ≤ cells → p .header .states * 32 ≤ cells′ → JointTrip m names p names′ cells cells′ text text′
+  trip-both : (cells cells′ : ℕ) → m .header .states * 32 ≤ cells → p .header .states * 32 ≤ cells′ → JointTrip c m names p names′ cells cells′ text text′
   trip-both cells cells′ fits fits′ =
       let r = read-both cells cells′ fits fits′ in
       record {
@@ -180,33 +195,42 @@ module _ (m : Table) (name : List ℕ) (names : List (List ℕ)) (w : Writable m
         read = r .read;
         component =
             copy-again m names (namesOf m names) (alone-numbered m name names w) (r .first) (r .first-copy) (r .first-valid)
-            (lookup text text′) (lookupNumber text text′) (rankOf m) (rank-number m name names w) found-first;
+            (lookup c text text′) (lookupNumber c text text′) (rankOf m) (rank-number m name names w) found-first;
         specification =
             copy-again p names′ all second-numbered (r .second) (r .second-copy) (r .second-valid)
-            (lookup text text′) (lookupNumber text text′) (numberIn names′ all) (λ b d. refl) found-second;
+            (lookup c text text′) (lookupNumber c text text′) (numberIn names′ all) (λ b d. refl) found-second;
         shared = shared;
       }
 
--- What the writer takes of a module and of a plan, with at most 32 different names in all, is read back together.
-pub joint-trip : (m : Table) (name : List ℕ) (names : List (List ℕ)) (room : ℕ) → first (writerChecks m name names room) ≡ Accepted
-    → (p : Table) (name′ : List ℕ) (names′ : List (List ℕ)) (room′ : ℕ) → first (writerChecks p name′ names′ room′) ≡ Accepted
-    → length (allNames m names p names′) ≤ 32
-    → (cells cells′ : ℕ) → m .header .states * 32 ≤ cells → p .header .states * 32 ≤ cells′
-    → JointTrip m names p names′ cells cells′ (wholeText m name names) (wholeText p name′ names′)
-joint-trip m name names room e p name′ names′ room′ e′ few cells cells′ fits fits′ =
-    trip-both m name names (writable m name names room e) p name′ names′ (writable p name′ names′ room′ e′) few cells cells′ fits fits′
+-- Names that match byte by byte are equal.
+pub exact-no-clash : (m : Table) (names : List (List ℕ)) (p : Table) (names′ : List (List ℕ)) → NoClashBetween Exact m names p names′
+exact-no-clash m names p names′ a b h k e = same-eq (nameOf names a) (nameOf names′ b) e
 
--- ---- by the writer's contract: what it leaves in the lent bytes
+module _ (m : Table) (name : List ℕ) (names : List (List ℕ)) (p : Table) (name′ : List ℕ) (names′ : List (List ℕ))
+    (few : length (allNames m names p names′) ≤ 32) (cells cells′ : ℕ) (fits : m .header .states * 32 ≤ cells) (fits′ : p .header .states * 32 ≤ cells′) where
+  module _ (room room′ : ℕ) (e : first (writerChecks m name names room) ≡ Accepted) (e′ : first (writerChecks p name′ names′ room′) ≡ Accepted) where
+    -- What the writer takes of a module and of a plan, with at most 32 different names in all, is read back together if no name of one clashes with a name of
+    -- the other.
+    pub joint-trip : (c : Spelling) → NoClashBetween c m names p names′ → JointTrip c m names p names′ cells cells′ (wholeText m name names) (wholeText p name′ names′)
+    joint-trip c unlike =
+        trip-both c m name names (writable m name names room e) p name′ names′ (writable p name′ names′ room′ e′) few unlike cells cells′ fits fits′
 
-pub written-trip : (t : Table) (name : List ℕ) (names : List (List ℕ)) (bytes : List ℕ) → first (writerChecks t name names (length bytes)) ≡ Accepted
-    → (cells : ℕ) → t .header .states * 32 ≤ cells → RoundTrip t names cells (take (textLength t name names) (writerBytes t name names bytes))
-written-trip t name names bytes e cells fits = rw (written-text t name names bytes e _ refl) (round-trip t name names (length bytes) e cells fits)
+    -- The archive reading takes names that clash as well.
+    pub archive-joint-trip : JointTrip Exact m names p names′ cells cells′ (wholeText m name names) (wholeText p name′ names′)
+    archive-joint-trip = joint-trip Exact (exact-no-clash m names p names′)
 
-pub written-joint-trip : (m : Table) (name : List ℕ) (names : List (List ℕ)) (bytes : List ℕ) → first (writerChecks m name names (length bytes)) ≡ Accepted
-    → (p : Table) (name′ : List ℕ) (names′ : List (List ℕ)) (bytes′ : List ℕ) → first (writerChecks p name′ names′ (length bytes′)) ≡ Accepted
-    → length (allNames m names p names′) ≤ 32 → (cells cells′ : ℕ) → m .header .states * 32 ≤ cells → p .header .states * 32 ≤ cells′
-    → JointTrip m names p names′ cells cells′ (take (textLength m name names) (writerBytes m name names bytes))
-    (take (textLength p name′ names′) (writerBytes p name′ names′ bytes′))
-written-joint-trip m name names bytes e p name′ names′ bytes′ e′ few cells cells′ fits fits′ =
-    rw (written-text m name names bytes e _ refl, written-text p name′ names′ bytes′ e′ _ refl)
-    (joint-trip m name names (length bytes) e p name′ names′ (length bytes′) e′ few cells cells′ fits fits′)
+  -- By the writer's contract: what it leaves in the lent bytes.
+  module _ (bytes bytes′ : List ℕ) (e : first (writerChecks m name names (length bytes)) ≡ Accepted)
+      (e′ : first (writerChecks p name′ names′ (length bytes′)) ≡ Accepted) where
+    abbrev written : List ℕ
+    written = take (textLength m name names) (writerBytes m name names bytes)
+
+    abbrev written′ : List ℕ
+    written′ = take (textLength p name′ names′) (writerBytes p name′ names′ bytes′)
+
+    pub written-joint-trip : (c : Spelling) → NoClashBetween c m names p names′ → JointTrip c m names p names′ cells cells′ written written′
+    written-joint-trip c unlike =
+        rw (written-text m name names bytes e _ refl, written-text p name′ names′ bytes′ e′ _ refl) (joint-trip (length bytes) (length bytes′) e e′ c unlike)
+
+    pub archive-written-joint-trip : JointTrip Exact m names p names′ cells cells′ written written′
+    archive-written-joint-trip = written-joint-trip Exact (exact-no-clash m names p names′)

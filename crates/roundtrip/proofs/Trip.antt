@@ -12,6 +12,7 @@ use Rattle.theory.specs.Table.{Table, table as tableOf}
 use Rattle.theory.specs.Checks.{declared}
 use Rattle.theory.proofs.Table.{table-narrow}
 use Rattle.text.specs.declared.Place.the-variants.{Head, Declarations}
+use Rattle.text.specs.declared.Spelling.{Spelling}
 use Rattle.text.specs.Fields.{split}
 use Rattle.text.specs.Lines.{byKind}
 use Rattle.text.specs.Reading.{Signal, Reading, next, entered, finished, isNil, readLines, fresh, readFrom}
@@ -21,10 +22,10 @@ use Rattle.text.proofs.Roles.{rolesAt, member-none}
 use Rattle.text.proofs.Entries.{started-next}
 use Rattle.text.proofs.Accepted.{getD-blank}
 use Rattle.roundtrip.specs.RoundTrip.{different, namesOf}
-use Rattle.roundtrip.proofs.Names.{number-within, Distinct, namesIn}
+use Rattle.roundtrip.proofs.Names.{Told, number-within, Distinct, namesIn}
 use Rattle.roundtrip.proofs.Lines.{goes, Reaches, reaches-then, reaches-map, runs-read}
 use Rattle.roundtrip.proofs.Put.{put-nothing, put-value}
-use Rattle.roundtrip.proofs.Rows.{Writable, table-plain, table-entry}
+use Rattle.roundtrip.proofs.Rows.{Writable, apart-names, table-plain, table-entry}
 use Rattle.roundtrip.proofs.Declarations.{numberIn, Numbered, Declaring, declarations}
 use Rattle.roundtrip.proofs.Steps.{Move, cellIn, turn, cellOf, Good, steps}
 
@@ -35,9 +36,12 @@ module _ (t : Table) where
   unfolding signals
   declared-in a d = those-in (declared t) a 0 32 d (omega arith) (table-narrow t a d)
 
-  pub signals-distinct : {name : List ℕ} {names : List (List ℕ)} → Writable t name names → Distinct (nameOf names) (signals t)
+  pub in-declared : (a : ℕ) → In a (signals t) → T (declared t a)
   unfolding signals
-  signals-distinct w a b h k = w .apart a b (in-those (declared t) a 0 32 h) (in-those (declared t) b 0 32 k)
+  in-declared a i = in-those (declared t) a 0 32 i
+
+  pub signals-distinct : {name : List ℕ} {names : List (List ℕ)} → Writable t name names → Distinct (nameOf names) (signals t)
+  signals-distinct w a b h k = apart-names w a b (in-declared a h) (in-declared b k)
 
 -- ---- a reading that is the table t again, its signals numbered by the places of their names in `final`
 
@@ -50,8 +54,9 @@ pub record Copy (t : Table) (names final : List (List ℕ)) (st : Reading) : Typ
   pub cells : (k : Move) → Good t k → getD (st .cells) (cellIn names final k) 65535 ≡ cellOf t k
   pub blank : (i : ℕ) → ((k : Move) → Good t k → ¬ (cellIn names final k ≡ i)) → getD (st .cells) i 65535 ≡ 65535
 
-module _ (t : Table) (name : List ℕ) (names : List (List ℕ)) (w : Writable t name names)
-    (l : List Signal) (text room : ℕ) (fits : t .header .states * 32 ≤ room) (few : length (different (namesIn l) (namesOf t names)) ≤ 32) where
+module _ (c : Spelling) (t : Table) (name : List ℕ) (names : List (List ℕ)) (w : Writable t name names)
+    (l : List Signal) (told : (a : ℕ) → T (declared t a) → Told c (nameOf names a) (namesIn l)) (text room : ℕ)
+    (fits : t .header .states * 32 ≤ room) (few : length (different (namesIn l) (namesOf t names)) ≤ 32) where
   final : List (List ℕ)
   final = different (namesIn l) (namesOf t names)
 
@@ -67,33 +72,34 @@ module _ (t : Table) (name : List ℕ) (names : List (List ℕ)) (w : Writable t
     cells = replicate room 65535;
   }
 
-  enter : entered text 0 (fresh l room) (byKind Head (tableRow t name)) ≡ next begun
+  enter : entered c text 0 (fresh l room) (byKind Head (tableRow t name)) ≡ next begun
   unfolding entered begun
   enter =
-      ap (entered text 0 (fresh l room)) (table-entry t name names w)
+      ap (entered c text 0 (fresh l room)) (table-entry t name names w)
       ∙ started-next (fresh l room) (t .header .states) (t .header .initial) (w .valid .some-state) (w .valid .few-states) (w .valid .initial)
       (omega (arith, length-replicate {A = ℕ} room 65535))
 
-  declare : Declaring t name names final w numbered (replicate room 65535) 0 begun
+  declare : Declaring t name names final w numbered c (replicate room 65535) 0 begun
   unfolding begun final signals
   declare = record {
     stands = refl;
     states = refl;
     initial = refl;
     cells = refl;
+    told = told;
     all = refl;
     roles = put-nothing (λ x. x) (numberIn names final) (rolesAt (t .header)) (false, false) (λ x. T (declared t x)) (λ i. rw (member-none i));
   }
 
-  steps-copy : (a : Reading) → Declaring t name names final w numbered (replicate room 65535) 32 a → (at : ℕ)
-      → Reaches text (stepRows t names 0 (t .header .states)) at a (Copy t names final)
+  steps-copy : (a : Reading) → Declaring t name names final w numbered c (replicate room 65535) 32 a → (at : ℕ)
+      → Reaches c text (stepRows t names 0 (t .header .states)) at a (Copy t names final)
   unfolding different those
   steps-copy a u at =
       let roles : (x : ℕ) → T (declared t x) → rolesAt (a .header) (numberIn names final x) ≡ rolesAt (t .header) x =
       λ x d. put-value (λ x. x) (numberIn names final) (rolesAt (t .header)) (false, false) (λ x. T (declared t x)) (u .roles) x d (table-narrow t x d) in
       let known : (x : ℕ) → T (declared t x) → T (declared (tableOf (a .header) []) (numberIn names final x)) =
       λ x d. subst (λ p. T (p .0 || p .1)) (sym (roles x d)) d in
-      reaches-map text (λ b v. record {
+      reaches-map c text (λ b v. record {
         states = ap (λ h. h .states) (v .header) ∙ u .states;
         initial = ap (λ h. h .initial) (v .header) ∙ u .initial;
         listed = ap namesIn (v .signals) ∙ u .all;
@@ -102,7 +108,7 @@ module _ (t : Table) (name : List ℕ) (names : List (List ℕ)) (w : Writable t
         cells = λ k g. put-value turn (cellIn names final) (cellOf t) 65535 (Good t) (v .cells) k g (digits-lt (g .0) (table-narrow t (k .1) (g .1)));
         blank = v .cells .others;
       })
-      (steps t name names final w numbered text (a .header) (a .signals) room fits (u .states) known (u .all) (t .header .states) 0 at a (omega arith) (record {
+      (steps t name names final w numbered c text (a .header) (a .signals) room fits (u .states) known (u .all) (t .header .states) 0 at a (omega arith) (record {
         stands = rw (u .stands);
         header = refl;
         signals = refl;
@@ -110,20 +116,20 @@ module _ (t : Table) (name : List ℕ) (names : List (List ℕ)) (w : Writable t
         cells = put-nothing turn (cellIn names final) (cellOf t) 65535 (Good t) (λ i. rw (u .cells) (getD-blank room i));
       }))
 
-  copied : Reaches text (tableRow t name ∷ map (signalRow t names) (signals t) ++ stepRows t names 0 (t .header .states)) 0 (fresh l room) (Copy t names final)
+  copied : Reaches c text (tableRow t name ∷ map (signalRow t names) (signals t) ++ stepRows t names 0 (t .header .states)) 0 (fresh l room) (Copy t names final)
   copied =
-      let u = reaches-then text (declarations t name names final w numbered text (replicate room 65535) (0 + length (tabbed (tableRow t name)) + 1) begun declare) steps-copy in
+      let u = reaches-then c text (declarations t name names final w numbered c text (replicate room 65535) (0 + length (tabbed (tableRow t name)) + 1) begun declare) steps-copy in
       record { end = u .end; runs = goes (table-plain t name names w) enter (u .runs); holds = u .holds }
 
   text-some : isNil (wholeText t name names) ≡ false
   unfolding wholeText printed tableRow tabbed
   text-some = refl
 
-  text-lines : readLines text 1 0 (fresh l room) (split 10 (wholeText t name names)) ≡ finished (copied .end)
+  text-lines : readLines c text 1 0 (fresh l room) (split 10 (wholeText t name names)) ≡ finished (copied .end)
   unfolding wholeText
-  text-lines = runs-read text 1 (copied .runs)
+  text-lines = runs-read c text 1 (copied .runs)
 
-  pub trip-from : (st : Reading) × (readFrom l text room (wholeText t name names) ≡ finished st) × Copy t names (different (namesIn l) (namesOf t names)) st
+  pub trip-from : (st : Reading) × (readFrom c l text room (wholeText t name names) ≡ finished st) × Copy t names (different (namesIn l) (namesOf t names)) st
   unfolding readFrom final textLength
   trip-from =
       let short : length (wholeText t name names) ≤ 65536 = w .short in

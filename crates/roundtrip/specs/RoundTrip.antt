@@ -1,7 +1,7 @@
 -- The letter's demand 2: a table written out as text and read again has the same states, first state, lists and steps, name for name.
 use mathlib.Core.Path.{_≡_}
 use mathlib.Core.Logic.{_↔_}
-use mathlib.Core.Bool.{cond}
+use mathlib.Core.Bool.{true, cond}
 use mathlib.Core.List.{List, [], _∷_, _++_, map}
 use Prim.Native.Nat.{ℕ, suc, _<_}
 use lib.Dec.{T, eqb, ltb}
@@ -9,7 +9,8 @@ use lib.ListN.{length}
 use Rattle.theory.specs.Table.{Table, member, cellAt}
 use Rattle.theory.specs.Checks.{declared}
 use Rattle.theory.specs.Valid.{Valid}
-use Rattle.text.specs.Fields.{same}
+use Rattle.text.specs.declared.Spelling.{Spelling}
+use Rattle.text.specs.Fields.{matches, same}
 use Rattle.text.specs.Reading.{Signal, Reading, finished, readAlone, both, readBoth, tableRead}
 use Rattle.text.specs.Writing.{signals, nameOf}
 use Rattle.text.specs.Lookup.{lookup, lookupNumber, lookupAlone, lookupNumberAlone}
@@ -42,11 +43,11 @@ rank a (b ∷ l) = cond (eqb b a) 0 (suc (rank a l))
 abbrev pub rankOf : Table → ℕ → ℕ
 rankOf t a = rank a (signals t)
 
--- The text, read with so many cells lent.
-pub record RoundTrip (t : Table) (names : List (List ℕ)) (cells : ℕ) (text : List ℕ) : Type 0 where
+-- The text, read in a spelling with so many cells lent.
+pub record RoundTrip (c : Spelling) (t : Table) (names : List (List ℕ)) (cells : ℕ) (text : List ℕ) : Type 0 where
   pub reading : Reading
-  pub read : readAlone cells text ≡ finished reading
-  pub again : ReadAgain t names reading (lookupAlone text) (lookupNumberAlone text) (rankOf t)
+  pub read : readAlone c cells text ≡ finished reading
+  pub again : ReadAgain t names reading (lookupAlone c text) (lookupNumberAlone c text) (rankOf t)
 
 -- ---- a module's and a plan's text together: signals are numbered as first declared, module first
 
@@ -76,11 +77,17 @@ allNames m names p names′ = different (namesOf m names) (namesOf p names′)
 abbrev pub numberAmong : Table → List (List ℕ) → Table → List (List ℕ) → ℕ → ℕ
 numberAmong m names p names′ b = place (nameOf names′ b) (allNames m names p names′)
 
--- The two texts, read together: the module's signals are numbered as alone, and a number is shared exactly for a shared name.
-pub record JointTrip (m : Table) (names : List (List ℕ)) (p : Table) (names′ : List (List ℕ)) (cells cells′ : ℕ) (text text′ : List ℕ) : Type 0 where
+-- No name of the module m clashes with one of the plan p (02, S-9): those that match in the spelling are equal. It is asked where the spelling is Folded, since
+-- two texts that were each written may clash with each other; where it is Exact it holds of all names (proofs/Theorem.antt: `exact-no-clash`).
+abbrev pub NoClashBetween : Spelling → Table → List (List ℕ) → Table → List (List ℕ) → Type 0
+NoClashBetween c m names p names′ =
+    (a b : ℕ) → T (declared m a) → T (declared p b) → matches c (nameOf names a) (nameOf names′ b) ≡ true → nameOf names a ≡ nameOf names′ b
+
+-- The two texts, read together in a spelling: the module's signals are numbered as alone, and a number is shared exactly for a shared name.
+pub record JointTrip (c : Spelling) (m : Table) (names : List (List ℕ)) (p : Table) (names′ : List (List ℕ)) (cells cells′ : ℕ) (text text′ : List ℕ) : Type 0 where
   pub first : Reading
   pub second : Reading
-  pub read : readBoth cells text cells′ text′ ≡ both first second
-  pub component : ReadAgain m names first (lookup text text′) (lookupNumber text text′) (rankOf m)
-  pub specification : ReadAgain p names′ second (lookup text text′) (lookupNumber text text′) (numberAmong m names p names′)
+  pub read : readBoth c cells text cells′ text′ ≡ both first second
+  pub component : ReadAgain m names first (lookup c text text′) (lookupNumber c text text′) (rankOf m)
+  pub specification : ReadAgain p names′ second (lookup c text text′) (lookupNumber c text text′) (numberAmong m names p names′)
   pub shared : (a b : ℕ) → T (declared m a) → T (declared p b) → (rankOf m a ≡ numberAmong m names p names′ b) ↔ (nameOf names a ≡ nameOf names′ b)

@@ -1,4 +1,4 @@
--- Laws for `find`, `equal` and the parts, by what the code knows at the byte i of s, whose length is n: the definition on what is left of s
+-- Laws for `find`, `lower`, `matches` and the parts, by what the code knows at the byte i of s, whose length is n: the definition on what is left of s
 -- makes up the definition on the whole.
 use mathlib.Core.Path.{_≡_, refl, sym, ap, _∙_}
 use mathlib.Core.Bool.{Bool, true, false, _&&_}
@@ -9,8 +9,10 @@ use native.Mathlib.Omega.{arith}
 use lib.Dec.{eqb}
 use lib.ListN.{length, take, drop, getD, length-drop, drop-of-length-le}
 use lib.Seq.{drop-cons, take-all}
-use borrow.Author.Tests.{eq-eqb, ne-eqb}
-use Rattle.text.specs.Fields.{upto, same}
+use borrow.Author.Tests.{eq-eqb, ne-eqb, le-leb, lt-leb}
+use Rattle.text.specs.declared.Spelling.{Spelling}
+use Rattle.text.specs.declared.Spelling.the-variants.{Folded}
+use Rattle.text.specs.Fields.{upto, lower, spelled, matches}
 use Rattle.text.proofs.Split.{upto-le}
 use Rattle.scan.specs.Places.{placeIn}
 
@@ -37,47 +39,68 @@ module _ (b : ℕ) (s : List ℕ) (n i : ℕ) (l : n ≡ length s) (e : i + upto
   pub find-none : n ≤ i → length s ≡ upto b s
   find-none h = omega (arith, upto-le b s)
 
--- ---- equal
+-- ---- lower
 
--- Lists of different lengths are not the same.
-pub same-unlike : (s t : List ℕ) → (length s ≡ length t → ⊥) → false ≡ same s t
-unfolding same
-same-unlike [] [] n = absurd (n refl)
-same-unlike [] (y ∷ t) n = refl
-same-unlike (x ∷ s) [] n = refl
-same-unlike (x ∷ s) (y ∷ t) n = go (eqb x y) (same-unlike s t (λ e. n (ap suc e)))
-  where
-    go : (b : Bool) → false ≡ same s t → false ≡ (b && same s t)
-    go true e = e
-    go false e = refl
+module _ (x : ℕ) where
+  pub lower-capital : 65 ≤ x → x ≤ 90 → x + 32 ≡ lower x
+  lower-capital h k = rw (le-leb 65 x h, le-leb x 90 k)
 
--- Bytes that differ somewhere are not the same.
-pub same-differ-at : (s t : List ℕ) (i : ℕ) → i < length s → i < length t → (getD s i 0 ≡ getD t i 0 → ⊥) → false ≡ same s t
-unfolding same
-same-differ-at (x ∷ s) (y ∷ t) zero h k d = rw (ne-eqb x y d)
-same-differ-at (x ∷ s) (y ∷ t) (suc i) h k d = go (eqb x y) (same-differ-at s t i (omega arith) (omega arith) d)
-  where
-    go : (b : Bool) → false ≡ same s t → false ≡ (b && same s t)
-    go true e = e
-    go false e = refl
-same-differ-at [] t i h k d = absurd (omega arith)
-same-differ-at (x ∷ s) [] i h k d = absurd (omega arith)
+  pub lower-before : x < 65 → x ≡ lower x
+  lower-before h = rw (lt-leb 65 x h)
 
--- From the byte i on they are the same: nothing at their end, one byte more, all.
-module _ (s t : List ℕ) (i : ℕ) where
-  pub same-end : length s ≤ i → length t ≤ i → same (drop i s) (drop i t) ≡ true
-  unfolding same
-  same-end h k = rw (drop-of-length-le s {i = i} h, drop-of-length-le t {i = i} k)
+  pub lower-after : 90 < x → x ≡ lower x
+  lower-after h = rw (lt-leb x 90 h, le-leb 65 x (omega arith))
 
-  pub same-more : 0 < i → i ≤ length s → i ≤ length t → same (drop i s) (drop i t) ≡ true → getD s (i - 1) 0 ≡ getD t (i - 1) 0
-      → same (drop (i - 1) s) (drop (i - 1) t) ≡ true
-  unfolding same
-  same-more p h k e d =
-      let z : i - 1 + 1 ≡ i = omega arith in
-      rw (drop-step s (i - 1) (omega arith), drop-step t (i - 1) (omega arith), eq-eqb (getD s (i - 1) 0) (getD t (i - 1) 0) d, z) e
+pub spell-folded : (c : Spelling) (x y : ℕ) → c ≡ Folded → y ≡ lower x → y ≡ spelled c x
+spell-folded c x y e f = rw e f
 
-  pub same-all : i ≤ 0 → same (drop i s) (drop i t) ≡ true → true ≡ same s t
-  same-all h e = let z : i ≡ 0 = omega arith in sym (rw z at e)
+-- ---- matches
+
+module _ (c : Spelling) where
+  -- Lists of different lengths do not match.
+  pub match-unlike : (s t : List ℕ) → (length s ≡ length t → ⊥) → false ≡ matches c s t
+  unfolding matches
+  match-unlike [] [] n = absurd (n refl)
+  match-unlike [] (y ∷ t) n = refl
+  match-unlike (x ∷ s) [] n = refl
+  match-unlike (x ∷ s) (y ∷ t) n = go (eqb (spelled c x) (spelled c y)) (match-unlike s t (λ e. n (ap suc e)))
+    where
+      go : (b : Bool) → false ≡ matches c s t → false ≡ (b && matches c s t)
+      go true e = e
+      go false e = refl
+
+  -- Nor do lists that differ at a byte.
+  match-differ-at : (s t : List ℕ) (i : ℕ) → i < length s → i < length t → (spelled c (getD s i 0) ≡ spelled c (getD t i 0) → ⊥) → false ≡ matches c s t
+  unfolding matches
+  match-differ-at (x ∷ s) (y ∷ t) zero h k d = rw (ne-eqb (spelled c x) (spelled c y) d)
+  match-differ-at (x ∷ s) (y ∷ t) (suc i) h k d = go (eqb (spelled c x) (spelled c y)) (match-differ-at s t i (omega arith) (omega arith) d)
+    where
+      go : (b : Bool) → false ≡ matches c s t → false ≡ (b && matches c s t)
+      go true e = e
+      go false e = refl
+  match-differ-at [] t i h k d = absurd (omega arith)
+  match-differ-at (x ∷ s) [] i h k d = absurd (omega arith)
+
+  pub match-differ : (s t : List ℕ) (i : ℕ) → i < length s → i < length t → (x : ℕ) → x ≡ spelled c (getD s i 0) → (y : ℕ) → y ≡ spelled c (getD t i 0)
+      → (x ≡ y → ⊥) → false ≡ matches c s t
+  match-differ s t i h k x f y g d = match-differ-at s t i h k (λ e. d (f ∙ e ∙ sym g))
+
+  -- From the byte i on they match: nothing at their end, one byte more, all.
+  module _ (s t : List ℕ) (i : ℕ) where
+    pub match-end : length s ≤ i → length t ≤ i → matches c (drop i s) (drop i t) ≡ true
+    unfolding matches
+    match-end h k = rw (drop-of-length-le s {i = i} h, drop-of-length-le t {i = i} k)
+
+    pub match-more : 0 < i → i ≤ length s → i ≤ length t → matches c (drop i s) (drop i t) ≡ true
+        → (x : ℕ) → x ≡ spelled c (getD s (i - 1) 0) → (y : ℕ) → y ≡ spelled c (getD t (i - 1) 0) → x ≡ y
+        → matches c (drop (i - 1) s) (drop (i - 1) t) ≡ true
+    unfolding matches
+    match-more p h k e x f y g d =
+        let z : i - 1 + 1 ≡ i = omega arith in
+        rw (drop-step s (i - 1) (omega arith), drop-step t (i - 1) (omega arith), ← f, ← g, eq-eqb x y d, z) e
+
+    pub match-all : i ≤ 0 → matches c (drop i s) (drop i t) ≡ true → true ≡ matches c s t
+    match-all h e = let z : i ≡ 0 = omega arith in sym (rw z at e)
 
 -- ---- parts
 

@@ -4,8 +4,9 @@ ghost use mathlib.Core.Path.{_≡_};
 ghost use Prim.Native.Nat.{_-_};
 ghost use lib.ListN.{take, drop};
 ghost use denote.Ref.{ptr};
-ghost use Rattle.text.specs.Fields.{upto, same};
+ghost use Rattle.text.specs.Fields.{upto, lower, spelled, matches, same};
 ghost use Rattle.scan.specs.Places.{placeIn};
+use text::Spelling;
 
 // How many bytes stand before the first b; all where there is none.
 pub fn find(s: &[u8], b: u8) -> usize
@@ -19,9 +20,29 @@ pub fn find(s: &[u8], b: u8) -> usize
     s.len()
 }
 
-// Whether a and b are the same bytes. They are compared from the last on: names in one text are often alike but for their ends.
-pub fn equal(a: &[u8], b: &[u8]) -> bool
-    ensures { λ r. ⌜ r ≡ same (now (a .entry)) (now (b .entry)) ⌝ }
+// Makes a capital letter of ASCII its small one.
+fn lower(x: u8) -> u8
+    ensures { λ r. ⌜ r ≡ lower x ⌝ }
+{
+    match x {
+        b'A'..=b'Z' => x + 32,
+        _ => x,
+    }
+}
+
+// Spells a byte: where letters are folded, a capital letter is its small one.
+pub fn spell(spelling: Spelling, x: u8) -> u8
+    ensures { λ r. ⌜ r ≡ spelled spelling x ⌝ }
+{
+    match spelling {
+        Spelling::Exact => x,
+        Spelling::Folded => lower(x),
+    }
+}
+
+// Whether a and b are the same bytes in a spelling. They are compared from the last on: names in one text are often alike but for their ends.
+pub fn matches(spelling: Spelling, a: &[u8], b: &[u8]) -> bool
+    ensures { λ r. ⌜ r ≡ matches spelling (now (a .entry)) (now (b .entry)) ⌝ }
 {
     let n = a.len();
     if n != b.len() {
@@ -30,11 +51,18 @@ pub fn equal(a: &[u8], b: &[u8]) -> bool
     let mut i = n;
     while 0 < i {
         i -= 1;
-        if a[i] != b[i] {
+        if spell(spelling, a[i]) != spell(spelling, b[i]) {
             return false;
         }
     }
     true
+}
+
+// Whether a and b are the same bytes.
+pub fn equal(a: &[u8], b: &[u8]) -> bool
+    ensures { λ r. ⌜ r ≡ same (now (a .entry)) (now (b .entry)) ⌝ }
+{
+    matches(Spelling::Exact, a, b)
 }
 
 // What stands before the byte `at`; all where there is none.

@@ -11,7 +11,8 @@ use Rattle.theory.specs.Table.{member}
 use Rattle.theory.proofs.Sets.{member-or}
 use Rattle.scan.specs.Places.{placeIn}
 use Rattle.signals.specs.declared.Name.{Name}
-use Rattle.signals.specs.Names.{isDeclared, textOf, nameAt}
+use Rattle.text.specs.Reading.{textOf}
+use Rattle.signals.specs.Names.{isDeclared, nameAt}
 
 pub declared-either : (h : Automaton) (a d : ℕ) (r : Bool) → d ≡ bitOr (h .inputs) (h .outputs) → r ≡ member d a → r ≡ isDeclared h a
 declared-either h a d r e f = f ∙ rw e (member-or (h .inputs) (h .outputs) a)

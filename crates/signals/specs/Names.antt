@@ -1,20 +1,16 @@
 -- A signal in an automaton, and its name in two texts, m and p.
-use mathlib.Core.Bool.{Bool, cond}
+use mathlib.Core.Bool.{Bool}
 use mathlib.Core.List.{List, []}
 use Prim.Native.Nat.{ℕ}
-use lib.Dec.{eqb}
 use lib.ListN.{take, drop}
 use Rattle.theory.specs.declared.Automaton.{Automaton}
 use Rattle.theory.specs.Table.{table}
 use Rattle.theory.specs.Checks.{declared}
+use Rattle.text.specs.Reading.{textOf}
 use Rattle.signals.specs.declared.Name.{Name}
 
 abbrev pub isDeclared : Automaton → ℕ → Bool
 isDeclared h a = declared (table h []) a
-
--- Of the text of a number, out of two: its bytes, or its place in memory.
-abbrev pub textOf : {A : Type 0} → A → A → ℕ → A
-textOf m p text = cond (eqb text 2) p m
 
 -- The bytes of a name.
 abbrev pub nameAt : List ℕ → List ℕ → Name → List ℕ

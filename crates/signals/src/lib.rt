@@ -2,7 +2,8 @@
 ghost use mathlib.Core.Path.{_≡_};
 ghost use denote.Ref.{ptr};
 ghost use Rattle.scan.specs.Places.{placeIn};
-ghost use Rattle.signals.specs.Names.{isDeclared, textOf, nameAt};
+ghost use Rattle.text.specs.Reading.{textOf};
+ghost use Rattle.signals.specs.Names.{isDeclared, nameAt};
 use theory::Automaton;
 
 // A name as a part of one of two texts: 2 is the second, any other number the first. It is held in 4 bytes, since a reading hands all its names

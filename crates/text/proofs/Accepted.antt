@@ -23,6 +23,8 @@ use Rattle.theory.proofs.Table.{table-narrow}
 use Rattle.text.specs.declared.Place.the-variants.{Head, Declarations}
 use Rattle.text.specs.declared.Role.{Role}
 use Rattle.text.specs.declared.Role.the-variants.{Input, Output}
+use Rattle.text.specs.declared.Spelling.{Spelling}
+use Rattle.text.specs.declared.Spelling.the-variants.{Exact}
 use Rattle.text.specs.declared.TextRefusal.{TextRefusal}
 use Rattle.text.specs.Fields.{split, onto, value}
 use Rattle.text.specs.Lines.{Entry, takesTable, parse}
@@ -127,9 +129,9 @@ module _ (l : List Signal) (room : ℕ) where
         ];
       }
 
-  declaring-sound : (r : Role) (s : Signal) (a : ℕ) (st st′ : Reading) → a ≤ length (st .signals) → Sound l room st → declaring st r s a ≡ next st′ → Sound l room st′
-  declaring-sound r s a st st′ le w e =
-      let u = declaring-of st r s a st′ e in
+  declaring-sound : (c : Spelling) (r : Role) (s : Signal) (a : ℕ) (st st′ : Reading) → a ≤ length (st .signals) → Sound l room st → declaring c st r s a ≡ next st′ → Sound l room st′
+  declaring-sound c r s a st st′ le w e =
+      let u = declaring-of c st r s a st′ e in
       let longer : length (st .signals ++ s ∷ []) ≡ length (st .signals) + 1 = length-append (st .signals) (s ∷ []) in
       subst (Sound l room) (u .gives) (elim (decLt a (length (st .signals))) [
         | yes h ↦ rw (lt-ltb a (length (st .signals)) h)
@@ -170,20 +172,20 @@ module _ (l : List Signal) (room : ℕ) where
         own = w .own;
       })
 
-  pub entered-sound : {fs : List (List ℕ)} {e : Entry} (text at : ℕ) (st st′ : Reading) → From (st .place) fs e → Sound l room st → entered text at st e ≡ next st′
+  pub entered-sound : {fs : List (List ℕ)} {e : Entry} (c : Spelling) (text at : ℕ) (st st′ : Reading) → From (st .place) fs e → Sound l room st → entered c text at st e ≡ next st′
       → Sound l room st′
   unfolding entered
-  entered-sound text at st st′ (of-table n s f q t) w e = absurd (T-not (takesTable (st .place)) (w .begun) t)
-  entered-sound text at st st′ (of-declaration r n q t g) w e = declaring-sound r _ (indexOf n (st .signals)) st st′ (index-le n (st .signals)) w e
-  entered-sound text at st st′ (of-step f n u q t g) w e = stepping-sound (value f) (indexOf n (st .signals)) (value u) st st′ w e
-  entered-sound text at st st′ (of-refusal k least) w e = absurd (let z : _≡_ {A = ℕ} 0 1 = cc in omega arith)
+  entered-sound c text at st st′ (of-table n s f q t) w e = absurd (T-not (takesTable (st .place)) (w .begun) t)
+  entered-sound c text at st st′ (of-declaration r n q t g) w e = declaring-sound c r _ (indexOf n (st .signals)) st st′ (index-le Exact n (st .signals)) w e
+  entered-sound c text at st st′ (of-step f n u q t g) w e = stepping-sound (value f) (indexOf n (st .signals)) (value u) st st′ w e
+  entered-sound c text at st st′ (of-refusal k least most) w e = absurd (let z : _≡_ {A = ℕ} 0 1 = cc in omega arith)
 
-  pub first-sound : {fs : List (List ℕ)} {e : Entry} (text at : ℕ) (st : Reading) → From Head fs e → length l ≤ 32 → entered text at (fresh l room) e ≡ next st → Sound l room st
+  pub first-sound : {fs : List (List ℕ)} {e : Entry} (c : Spelling) (text at : ℕ) (st : Reading) → From Head fs e → length l ≤ 32 → entered c text at (fresh l room) e ≡ next st → Sound l room st
   unfolding entered
-  first-sound text at st (of-table n s f q t) few e = started-sound (value s) (value f) st few e
-  first-sound text at st (of-declaration r n q t g) few e = absurd t
-  first-sound text at st (of-step f n u q t g) few e = absurd t
-  first-sound text at st (of-refusal k least) few e = absurd (let z : _≡_ {A = ℕ} 0 1 = cc in omega arith)
+  first-sound c text at st (of-table n s f q t) few e = started-sound (value s) (value f) st few e
+  first-sound c text at st (of-declaration r n q t g) few e = absurd t
+  first-sound c text at st (of-step f n u q t g) few e = absurd t
+  first-sound c text at st (of-refusal k least most) few e = absurd (let z : _≡_ {A = ℕ} 0 1 = cc in omega arith)
 
 -- ---- all lines
 
@@ -198,14 +200,14 @@ pub unless-nil : (b : Bool) (o : Outcome) (r : TextRefusal) (st : Reading) → c
 unless-nil true o r st e = e
 unless-nil false o r st e = absurd (let z : _≡_ {A = ℕ} 0 1 = cc in omega arith)
 
-module _ (l : List Signal) (text room : ℕ) where
-  lines-sound : (k at : ℕ) (st st′ : Reading) (ls : List (List ℕ)) → Sound l room st → readLines text k at st ls ≡ finished st′ → Sound l room st′
+module _ (c : Spelling) (l : List Signal) (text room : ℕ) where
+  lines-sound : (k at : ℕ) (st st′ : Reading) (ls : List (List ℕ)) → Sound l room st → readLines c text k at st ls ≡ finished st′ → Sound l room st′
   unfolding readLines
   lines-sound k at st st′ [] w e = subst (Sound l room) (finished-same st st′ e) w
   lines-sound k at st st′ (x ∷ []) w e = subst (Sound l room) (finished-same st st′ (unless-nil (isNil x) (finished st) _ st′ e)) w
   lines-sound k at st st′ (x ∷ y ∷ ls) w e =
       let (m, p, q) = onward-finished text k _ _ st′ e in
-      lines-sound (suc k) (at + length x + 1) m st′ (y ∷ ls) (entered-sound l room text at st m (from-line (st .place) x) w p) q
+      lines-sound (suc k) (at + length x + 1) m st′ (y ∷ ls) (entered-sound l room c text at st m (from-line (st .place) x) w p) q
 
   -- The first line, and what comes behind it.
   pub record Opened (bytes : List ℕ) (st : Reading) : Type 0 where
@@ -214,10 +216,10 @@ module _ (l : List Signal) (text room : ℕ) where
     pub lines : List (List ℕ)
     pub parts : split 10 bytes ≡ line ∷ second ∷ lines
     pub begun : Reading
-    pub enters : entered text 0 (fresh l room) (parse Head line) ≡ next begun
-    pub goes : readLines text 2 (0 + length line + 1) begun (second ∷ lines) ≡ finished st
+    pub enters : entered c text 0 (fresh l room) (parse Head line) ≡ next begun
+    pub goes : readLines c text 2 (0 + length line + 1) begun (second ∷ lines) ≡ finished st
 
-  opened-lines : (bytes : List ℕ) (x : ℕ) (s : List ℕ) (st : Reading) → bytes ≡ x ∷ s → readLines text 1 0 (fresh l room) (split 10 (x ∷ s)) ≡ finished st
+  opened-lines : (bytes : List ℕ) (x : ℕ) (s : List ℕ) (st : Reading) → bytes ≡ x ∷ s → readLines c text 1 0 (fresh l room) (split 10 (x ∷ s)) ≡ finished st
       → Opened bytes st
   unfolding split readLines
   opened-lines bytes x s st q e =
@@ -225,31 +227,31 @@ module _ (l : List Signal) (text room : ℕ) where
       go (eqb x 10) f fs (ap (split 10) q ∙ rw p) (rw p at e)
     where
       open-line : (y : List ℕ) (z : List ℕ) (ls : List (List ℕ)) → split 10 bytes ≡ y ∷ z ∷ ls
-          → onward text 1 (entered text 0 (fresh l room) (parse Head y)) (λ st. readLines text 2 (0 + length y + 1) st (z ∷ ls)) ≡ finished st → Opened bytes st
+          → onward text 1 (entered c text 0 (fresh l room) (parse Head y)) (λ st. readLines c text 2 (0 + length y + 1) st (z ∷ ls)) ≡ finished st → Opened bytes st
       open-line y z ls p e =
           let (m, f, g) = onward-finished text 1 _ _ st e in
           record { line = y; second = z; lines = ls; parts = p; begun = m; enters = f; goes = g }
 
       go : (b : Bool) (f : List ℕ) (fs : List (List ℕ)) → split 10 bytes ≡ cond b ([] ∷ f ∷ fs) (onto x (f ∷ fs))
-          → readLines text 1 0 (fresh l room) (cond b ([] ∷ f ∷ fs) (onto x (f ∷ fs))) ≡ finished st → Opened bytes st
+          → readLines c text 1 0 (fresh l room) (cond b ([] ∷ f ∷ fs) (onto x (f ∷ fs))) ≡ finished st → Opened bytes st
       go true f fs p e = open-line [] f fs p e
       go false f [] p e = absurd (let z : _≡_ {A = ℕ} 0 1 = cc in omega arith)
       go false f (g ∷ fs) p e = open-line (x ∷ f) g fs p e
 
-  pub opened : (bytes : List ℕ) (st : Reading) → readFrom l text room bytes ≡ finished st → Opened bytes st
+  pub opened : (bytes : List ℕ) (st : Reading) → readFrom c l text room bytes ≡ finished st → Opened bytes st
   unfolding readFrom
   opened bytes st e = go (ltb 65536 (length bytes)) bytes refl e
     where
       go : (b : Bool) (s : List ℕ) → bytes ≡ s
-          → cond b (refuseAt 13 text 0) (cond (isNil s) (refuseAt 22 text 0) (readLines text 1 0 (fresh l room) (split 10 s))) ≡ finished st → Opened bytes st
+          → cond b (refuseAt 13 text 0) (cond (isNil s) (refuseAt 22 text 0) (readLines c text 1 0 (fresh l room) (split 10 s))) ≡ finished st → Opened bytes st
       go true s q e = absurd (let z : _≡_ {A = ℕ} 0 1 = cc in omega arith)
       go false [] q e = absurd (let z : _≡_ {A = ℕ} 0 1 = cc in omega arith)
       go false (x ∷ s) q e = opened-lines bytes x s st q e
 
   pub opened-sound : {bytes : List ℕ} {st : Reading} (o : Opened bytes st) → length l ≤ 32 → Sound l room (o .begun)
-  opened-sound o few = first-sound l room text 0 (o .begun) (from-line Head (o .line)) few (o .enters)
+  opened-sound o few = first-sound l room c text 0 (o .begun) (from-line Head (o .line)) few (o .enters)
 
-  pub accepted : (bytes : List ℕ) (st : Reading) → length l ≤ 32 → readFrom l text room bytes ≡ finished st → Sound l room st
+  pub accepted : (bytes : List ℕ) (st : Reading) → length l ≤ 32 → readFrom c l text room bytes ≡ finished st → Sound l room st
   accepted bytes st few e =
       let o = opened bytes st e in
       lines-sound 2 (0 + length (o .line) + 1) (o .begun) st (o .second ∷ o .lines) (opened-sound o few) (o .goes)
@@ -284,27 +286,27 @@ pub accepted-beyond : (l : List Signal) (room : ℕ) (st : Reading) → Sound l 
 accepted-beyond l room st w k h = elim (w .steps k) [ inl e ↦ e | inr u ↦ absurd (omega (arith, u .from)) ]
 
 -- A text alone.
-pub accepted-alone : (room : ℕ) (bytes : List ℕ) (st : Reading) → readAlone room bytes ≡ finished st → Sound [] room st
+pub accepted-alone : (c : Spelling) (room : ℕ) (bytes : List ℕ) (st : Reading) → readAlone c room bytes ≡ finished st → Sound [] room st
 unfolding readAlone
-accepted-alone room bytes st e = accepted [] 1 room bytes st (omega arith) e
+accepted-alone c room bytes st e = accepted c [] 1 room bytes st (omega arith) e
 
 -- Two texts together.
-pub read-both : (room : ℕ) (bytes : List ℕ) (room′ : ℕ) (bytes′ : List ℕ) (m p : Reading) → readBoth room bytes room′ bytes′ ≡ both m p
-    → (readFrom [] 1 room bytes ≡ finished m) × (readFrom (m .signals) 2 room′ bytes′ ≡ finished p)
+pub read-both : (c : Spelling) (room : ℕ) (bytes : List ℕ) (room′ : ℕ) (bytes′ : List ℕ) (m p : Reading) → readBoth c room bytes room′ bytes′ ≡ both m p
+    → (readFrom c [] 1 room bytes ≡ finished m) × (readFrom c (m .signals) 2 room′ bytes′ ≡ finished p)
 unfolding readBoth readAlone
-read-both room bytes room′ bytes′ m p e = first (readFrom [] 1 room bytes) refl e
+read-both c room bytes room′ bytes′ m p e = first (readFrom c [] 1 room bytes) refl e
   where
-    second : (x : Reading) → readFrom [] 1 room bytes ≡ finished x → (o : Outcome) → readFrom (x .signals) 2 room′ bytes′ ≡ o → afterSecond x o ≡ both m p
-        → (readFrom [] 1 room bytes ≡ finished m) × (readFrom (m .signals) 2 room′ bytes′ ≡ finished p)
+    second : (x : Reading) → readFrom c [] 1 room bytes ≡ finished x → (o : Outcome) → readFrom c (x .signals) 2 room′ bytes′ ≡ o → afterSecond x o ≡ both m p
+        → (readFrom c [] 1 room bytes ≡ finished m) × (readFrom c (m .signals) 2 room′ bytes′ ≡ finished p)
     second x f (finished y) g e =
         let a : x ≡ m = cc in
         let b : y ≡ p = cc in
         rw (← a, ← b) (f, g)
     second x f (ended r) g e = absurd (let z : _≡_ {A = ℕ} 0 1 = cc in omega arith)
 
-    first : (o : Outcome) → readFrom [] 1 room bytes ≡ o → afterFirst room′ bytes′ o ≡ both m p
-        → (readFrom [] 1 room bytes ≡ finished m) × (readFrom (m .signals) 2 room′ bytes′ ≡ finished p)
-    first (finished x) f e = second x f (readFrom (x .signals) 2 room′ bytes′) refl e
+    first : (o : Outcome) → readFrom c [] 1 room bytes ≡ o → afterFirst c room′ bytes′ o ≡ both m p
+        → (readFrom c [] 1 room bytes ≡ finished m) × (readFrom c (m .signals) 2 room′ bytes′ ≡ finished p)
+    first (finished x) f e = second x f (readFrom c (x .signals) 2 room′ bytes′) refl e
     first (ended r) f e = absurd (let z : _≡_ {A = ℕ} 0 1 = cc in omega arith)
 
 pub record Accepted (room room′ : ℕ) (m p : Reading) : Type 0 where
@@ -312,11 +314,11 @@ pub record Accepted (room room′ : ℕ) (m p : Reading) : Type 0 where
   pub second : Sound (m .signals) room′ p
   pub declared-in : (a : ℕ) → a < length (p .signals) → T (declares m a || declares p a)
 
-pub accepted-both : (room : ℕ) (bytes : List ℕ) (room′ : ℕ) (bytes′ : List ℕ) (m p : Reading) → readBoth room bytes room′ bytes′ ≡ both m p → Accepted room room′ m p
-accepted-both room bytes room′ bytes′ m p e =
-    let (f, g) = read-both room bytes room′ bytes′ m p e in
-    let w = accepted [] 1 room bytes m (omega arith) f in
-    let v = accepted (m .signals) 2 room′ bytes′ p (w .few-signals) g in
+pub accepted-both : (c : Spelling) (room : ℕ) (bytes : List ℕ) (room′ : ℕ) (bytes′ : List ℕ) (m p : Reading) → readBoth c room bytes room′ bytes′ ≡ both m p → Accepted room room′ m p
+accepted-both c room bytes room′ bytes′ m p e =
+    let (f, g) = read-both c room bytes room′ bytes′ m p e in
+    let w = accepted c [] 1 room bytes m (omega arith) f in
+    let v = accepted c (m .signals) 2 room′ bytes′ p (w .few-signals) g in
     record {
       first = w;
       second = v;

@@ -9,7 +9,7 @@ use native.Mathlib.Decide.{ℕ-discrete}
 use lib.Dec.{T}
 use lib.ListN.{length}
 use Rattle.text.specs.Writing.{those}
-use Rattle.text.proofs.Entries.{is-true}
+use Rattle.text.proofs.Entries.{is-true, is-false}
 
 -- The number a stands in the list.
 abbrev pub In : ℕ → List ℕ → Type 0
@@ -69,3 +69,18 @@ module _ (f : ℕ → Bool) where
       let l = those f (suc s) n in
       let rest : length l ≤ n = those-few (suc s) n in
       elim (f s) as (λ b. length (cond b (s ∷ l) l) ≤ suc n) [ true ↦ omega arith | false ↦ omega arith ]
+
+  pub those-none : (s n : ℕ) → ((a : ℕ) → s ≤ a → a < s + n → ¬ T (f a)) → those f s n ≡ []
+  unfolding those
+  those-none s zero h = refl
+  those-none s (suc n) h = rw (is-false (f s) (h s (omega arith) (omega arith))) (those-none (suc s) n (λ a i j. h a (omega arith) (omega arith)))
+
+  -- The lowest number that passes is the first.
+  pub those-first : (a s n : ℕ) → T (f a) → s ≤ a → a < s + n → ((b : ℕ) → s ≤ b → b < a → ¬ T (f b)) → (rest : List ℕ) × (those f s n ≡ a ∷ rest)
+  unfolding those
+  those-first a s zero t h k low = absurd (omega arith)
+  those-first a s (suc n) t h k low = elim (ℕ-discrete s a) [
+    | yes e ↦ rw (is-true (f s) (subst (λ x. T (f x)) (sym e) t), e) (those f (suc a) n, refl)
+    | no d ↦
+        rw (is-false (f s) (low s (omega arith) (omega arith))) (those-first a (suc s) n t (omega arith) (omega arith) (λ b i j. low b (omega arith) j))
+  ]

@@ -1,4 +1,4 @@
--- What an entry does to a reading, refusal by refusal (01: 1, 2, 10; 18, 21; 19, 20), the first that applies.
+-- What an entry does to a reading, refusal by refusal (01: 1, 2, 10; 18, 21; 19, 20; 02, S-9: 28), the first that applies.
 use mathlib.Core.Path.{_≡_, refl, sym, _∙_}
 use mathlib.Core.Logic.{inl, inr}
 use mathlib.Core.Bool.{Bool, true, false, not, _||_, or-true}
@@ -11,7 +11,8 @@ use borrow.Author.Tests.{eq-eqb, ne-eqb, lt-ltb, le-ltb, le-leb, lt-leb}
 use Rattle.theory.proofs.Tests.{test}
 use Rattle.text.specs.declared.Place.the-variants.{Declarations, Steps}
 use Rattle.text.specs.declared.Role.{Role}
-use Rattle.text.specs.Reading.{Signal, Reading, next, stop, started, withRole, known, declaring, stepping}
+use Rattle.text.specs.declared.Spelling.{Spelling}
+use Rattle.text.specs.Reading.{Signal, Reading, next, stop, firstMatch, started, withRole, known, declaring, stepping}
 use Rattle.text.specs.Lookup.{declares}
 
 never : {n : ℕ} {st : Reading} → ¬ (stop n ≡ next st)
@@ -57,20 +58,25 @@ module _ (st : Reading) (n i : ℕ) where
 
 -- ---- a declaration of the signal s, whose number is a
 
-module _ (st : Reading) (r : Role) (s : Signal) (a : ℕ) where
-  pub declaring-again : T (declares st a) → declaring st r s a ≡ stop 18
+module _ (c : Spelling) (st : Reading) (r : Role) (s : Signal) (a : ℕ) where
+  pub declaring-again : T (declares st a) → declaring c st r s a ≡ stop 18
   unfolding declaring
   declaring-again d = simp (is-true (declares st a) d)
 
   module _ (new : ¬ T (declares st a)) where
-    pub declaring-many : 32 ≤ a → declaring st r s a ≡ stop 21
+    pub declaring-clash : firstMatch c (s .name) (st .signals) < a → declaring c st r s a ≡ stop 28
     unfolding declaring
-    declaring-many h = simp (is-false (declares st a) new, le-leb 32 a h)
+    declaring-clash h = simp (is-false (declares st a) new, lt-ltb (firstMatch c (s .name) (st .signals)) a h)
 
-    pub declaring-next : a < 32
-        → declaring st r s a ≡ next (record { place = Declarations; header = withRole r a (st .header); signals = known (st .signals) s a; cells = st .cells })
-    unfolding declaring
-    declaring-next h = simp (is-false (declares st a) new, lt-leb 32 a h)
+    module _ (unlike : a ≤ firstMatch c (s .name) (st .signals)) where
+      pub declaring-many : 32 ≤ a → declaring c st r s a ≡ stop 21
+      unfolding declaring
+      declaring-many h = simp (is-false (declares st a) new, le-ltb (firstMatch c (s .name) (st .signals)) a unlike, le-leb 32 a h)
+
+      pub declaring-next : a < 32
+          → declaring c st r s a ≡ next (record { place = Declarations; header = withRole r a (st .header); signals = known (st .signals) s a; cells = st .cells })
+      unfolding declaring
+      declaring-next h = simp (is-false (declares st a) new, le-ltb (firstMatch c (s .name) (st .signals)) a unlike, lt-leb 32 a h)
 
 -- ---- a step of the signal a
 
@@ -127,16 +133,19 @@ started-of st n i st′ e =
     elim (decLt (length (st .cells)) (n * 32)) [ yes l ↦ absurd (never (sym (started-room st n i some few initial l) ∙ e)) | no g ↦ omega arith ] in
     record { some = some; few = few; initial = initial; room = room; gives = next-same _ st′ (sym (started-next st n i some few initial room) ∙ e) }
 
-pub record Declared (st : Reading) (r : Role) (s : Signal) (a : ℕ) (st′ : Reading) : Type 0 where
+pub record Declared (c : Spelling) (st : Reading) (r : Role) (s : Signal) (a : ℕ) (st′ : Reading) : Type 0 where
   pub new : ¬ T (declares st a)
+  pub unlike : a ≤ firstMatch c (s .name) (st .signals)
   pub low : a < 32
   pub gives : record { place = Declarations; header = withRole r a (st .header); signals = known (st .signals) s a; cells = st .cells } ≡ st′
 
-pub declaring-of : (st : Reading) (r : Role) (s : Signal) (a : ℕ) (st′ : Reading) → declaring st r s a ≡ next st′ → Declared st r s a st′
-declaring-of st r s a st′ e =
-    let new : ¬ T (declares st a) = λ d. never (sym (declaring-again st r s a d) ∙ e) in
-    let low : a < 32 = elim (decLt a 32) [ yes l ↦ l | no g ↦ absurd (never (sym (declaring-many st r s a new (omega arith)) ∙ e)) ] in
-    record { new = new; low = low; gives = next-same _ st′ (sym (declaring-next st r s a new low) ∙ e) }
+pub declaring-of : (c : Spelling) (st : Reading) (r : Role) (s : Signal) (a : ℕ) (st′ : Reading) → declaring c st r s a ≡ next st′ → Declared c st r s a st′
+declaring-of c st r s a st′ e =
+    let new : ¬ T (declares st a) = λ d. never (sym (declaring-again c st r s a d) ∙ e) in
+    let unlike : a ≤ firstMatch c (s .name) (st .signals) =
+    elim (decLt (firstMatch c (s .name) (st .signals)) a) [ yes l ↦ absurd (never (sym (declaring-clash c st r s a new l) ∙ e)) | no g ↦ omega arith ] in
+    let low : a < 32 = elim (decLt a 32) [ yes l ↦ l | no g ↦ absurd (never (sym (declaring-many c st r s a new unlike (omega arith)) ∙ e)) ] in
+    record { new = new; unlike = unlike; low = low; gives = next-same _ st′ (sym (declaring-next c st r s a new unlike low) ∙ e) }
 
 pub record Stepped (st : Reading) (from a to : ℕ) (st′ : Reading) : Type 0 where
   pub signal : T (declares st a)

@@ -10,4 +10,7 @@ pub mod Accepted
 pub mod Said
 pub mod Parts
 pub mod NeverTen
+pub mod Clashes
+pub mod ArchiveRule
+pub mod Archive
 pub mod Example

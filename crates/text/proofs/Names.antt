@@ -1,24 +1,38 @@
--- Equal names, and the numbers of names among signals.
-use mathlib.Core.Path.{_≡_, refl, ap}
+-- Names that match in a spelling, and the numbers of names among signals.
+use mathlib.Core.Path.{_≡_, refl, sym, ap}
 use mathlib.Core.Bool.{Bool, true, false, _&&_, cond}
 use mathlib.Core.List.{List, [], _∷_, _++_}
-use Prim.Native.Nat.{ℕ, suc, _≤_, _<_}
+use Prim.Native.Nat.{ℕ, zero, suc, _≤_, _<_}
 use native.Mathlib.Omega.{arith}
+use native.Mathlib.Decide.{decLt, ℕ-discrete}
 use lib.Dec.{eqb}
-use lib.ListN.{length}
-use borrow.Author.Tests.{eq-eqb, eqb-true}
-use Rattle.text.specs.Fields.{same}
-use Rattle.text.specs.Reading.{Signal, indexOf}
+use lib.ListN.{length, getD}
+use borrow.Author.Tests.{eq-eqb, ne-eqb, eqb-true}
+use Rattle.text.specs.declared.Spelling.{Spelling}
+use Rattle.text.specs.declared.Spelling.the-variants.{Exact}
+use Rattle.text.specs.Fields.{spelled, matches, same}
+use Rattle.text.specs.Reading.{Signal, firstMatch, indexOf}
+use Rattle.text.specs.Lookup.{nobody}
 
--- ---- equal names
+-- ---- names that match
 
-pub same-self : (s : List ℕ) → same s s ≡ true
-unfolding same
-same-self [] = refl
-same-self (x ∷ s) = rw (eq-eqb x x refl, same-self s)
+pub match-self : (c : Spelling) (s : List ℕ) → matches c s s ≡ true
+unfolding matches
+match-self c [] = refl
+match-self c (x ∷ s) = rw (eq-eqb (spelled c x) (spelled c x) refl, match-self c s)
+
+eqb-comm : (x y : ℕ) → eqb x y ≡ eqb y x
+eqb-comm x y = elim (ℕ-discrete x y) [ yes e ↦ rw e | no d ↦ rw (ne-eqb x y d, ne-eqb y x (λ e. d (sym e))) ]
+
+pub match-sym : (c : Spelling) (s t : List ℕ) → matches c s t ≡ matches c t s
+unfolding matches
+match-sym c [] [] = refl
+match-sym c [] (y ∷ t) = refl
+match-sym c (x ∷ s) [] = refl
+match-sym c (x ∷ s) (y ∷ t) = rw (eqb-comm (spelled c x) (spelled c y), match-sym c s t)
 
 pub same-eq : (s t : List ℕ) → same s t ≡ true → s ≡ t
-unfolding same
+unfolding matches
 same-eq [] [] e = refl
 same-eq [] (y ∷ t) e = cc
 same-eq (x ∷ s) [] e = cc
@@ -35,26 +49,78 @@ same-not s t n = go (same s t) refl
     go true e = absurd (n (same-eq s t e))
     go false e = refl
 
+-- Equal names match in every spelling.
+pub same-match : (c : Spelling) (s t : List ℕ) → same s t ≡ true → matches c s t ≡ true
+same-match c s t e = rw (same-eq s t e) (match-self c t)
+
 -- ---- the number of a name
 
-pub index-le : (n : List ℕ) (l : List Signal) → indexOf n l ≤ length l
-unfolding indexOf
-index-le n [] = omega arith
-index-le n (s ∷ l) = elim (same (s .name) n) as (λ b. cond b 0 (suc (indexOf n l)) ≤ suc (length l)) [ true ↦ omega arith | false ↦ omega (arith, index-le n l) ]
+pub index-le : (c : Spelling) (n : List ℕ) (l : List Signal) → firstMatch c n l ≤ length l
+unfolding firstMatch
+index-le c n [] = omega arith
+index-le c n (s ∷ l) =
+    elim (matches c (s .name) n) as (λ b. cond b 0 (suc (firstMatch c n l)) ≤ suc (length l)) [ true ↦ omega arith | false ↦ omega (arith, index-le c n l) ]
 
 -- What comes behind does not change it.
-pub index-append : (n : List ℕ) (l m : List Signal) → indexOf n l < length l → indexOf n (l ++ m) ≡ indexOf n l
-unfolding indexOf
-index-append n [] m h = absurd (omega arith)
-index-append n (s ∷ l) m h = go (same (s .name) n) (index-append n l m) h
+pub index-append : (c : Spelling) (n : List ℕ) (l m : List Signal) → firstMatch c n l < length l → firstMatch c n (l ++ m) ≡ firstMatch c n l
+unfolding firstMatch
+index-append c n [] m h = absurd (omega arith)
+index-append c n (s ∷ l) m h = go (matches c (s .name) n) (index-append c n l m) h
   where
-    go : (b : Bool) → (indexOf n l < length l → indexOf n (l ++ m) ≡ indexOf n l) → cond b 0 (suc (indexOf n l)) < suc (length l)
-        → cond b 0 (suc (indexOf n (l ++ m))) ≡ cond b 0 (suc (indexOf n l))
+    go : (b : Bool) → (firstMatch c n l < length l → firstMatch c n (l ++ m) ≡ firstMatch c n l) → cond b 0 (suc (firstMatch c n l)) < suc (length l)
+        → cond b 0 (suc (firstMatch c n (l ++ m))) ≡ cond b 0 (suc (firstMatch c n l))
     go true ih h = refl
     go false ih h = ap suc (ih (omega arith))
 
 -- A name put behind has the number that it had, or the next.
 pub index-put : (s : Signal) (l : List Signal) → indexOf (s .name) (l ++ s ∷ []) ≡ indexOf (s .name) l
-unfolding indexOf
-index-put s [] = rw (same-self (s .name))
+unfolding firstMatch
+index-put s [] = rw (match-self Exact (s .name))
 index-put s (x ∷ l) = rw (index-put s l)
+
+-- What comes behind never lowers it.
+pub index-grows : (c : Spelling) (n : List ℕ) (l m : List Signal) → firstMatch c n l ≤ firstMatch c n (l ++ m)
+unfolding firstMatch
+index-grows c n [] m = omega arith
+index-grows c n (s ∷ l) m = elim (matches c (s .name) n) as (λ b. cond b 0 (suc (firstMatch c n l)) ≤ cond b 0 (suc (firstMatch c n (l ++ m)))) [
+  | true ↦ omega arith
+  | false ↦ omega (arith, index-grows c n l m)
+]
+
+-- ---- the first match: none below it matches, and it does
+
+pub match-below : (c : Spelling) (n : List ℕ) (l : List Signal) (a : ℕ) → a < firstMatch c n l → matches c (getD l a nobody .name) n ≡ false
+unfolding firstMatch
+match-below c n [] a h = absurd (omega arith)
+match-below c n (s ∷ l) a h = go (matches c (s .name) n) refl a h (match-below c n l)
+  where
+    go : (b : Bool) → matches c (s .name) n ≡ b → (a : ℕ) → a < cond b 0 (suc (firstMatch c n l))
+        → ((i : ℕ) → i < firstMatch c n l → matches c (getD l i nobody .name) n ≡ false) → matches c (getD (s ∷ l) a nobody .name) n ≡ false
+    go true e a h rest = absurd (omega arith)
+    go false e zero h rest = e
+    go false e (suc a) h rest = rest a (omega arith)
+
+pub match-at : (c : Spelling) (n : List ℕ) (l : List Signal) → firstMatch c n l < length l → matches c (getD l (firstMatch c n l) nobody .name) n ≡ true
+unfolding firstMatch
+match-at c n [] h = absurd (omega arith)
+match-at c n (s ∷ l) h = go (matches c (s .name) n) refl h (match-at c n l)
+  where
+    go : (b : Bool) → matches c (s .name) n ≡ b → cond b 0 (suc (firstMatch c n l)) < suc (length l)
+        → (firstMatch c n l < length l → matches c (getD l (firstMatch c n l) nobody .name) n ≡ true)
+        → matches c (getD (s ∷ l) (cond b 0 (suc (firstMatch c n l))) nobody .name) n ≡ true
+    go true e h rest = e
+    go false e h rest = rest (omega arith)
+
+-- No signal that matches is below it.
+pub match-above : (c : Spelling) (n : List ℕ) (l : List Signal) (a : ℕ) → matches c (getD l a nobody .name) n ≡ true → firstMatch c n l ≤ a
+match-above c n l a e = elim (decLt a (firstMatch c n l)) [
+  | yes h ↦ absurd (let f = match-below c n l a h in let z : _≡_ {A = ℕ} 0 1 = cc in omega arith)
+  | no g ↦ omega arith
+]
+
+-- The signal that has the name matches it in every spelling.
+pub first-le-index : (c : Spelling) (n : List ℕ) (l : List Signal) → firstMatch c n l ≤ indexOf n l
+first-le-index c n l = elim (decLt (indexOf n l) (length l)) [
+  | yes h ↦ match-above c n l (indexOf n l) (same-match c (getD l (indexOf n l) nobody .name) n (match-at Exact n l h))
+  | no g ↦ omega (arith, index-le c n l)
+]

@@ -12,6 +12,7 @@ use Rattle.theory.proofs.Tests.{or-left, or-right}
 use Rattle.text.specs.declared.Place.{Place}
 use Rattle.text.specs.declared.Place.the-variants.{Head}
 use Rattle.text.specs.declared.Role.{Role}
+use Rattle.text.specs.declared.Spelling.{Spelling}
 use Rattle.text.specs.Fields.{split, upto, nameOk, value}
 use Rattle.text.specs.Lines.{Entry, roleWord}
 use Rattle.text.specs.Reading.{Signal, Reading, next, indexOf, known, entered, finished, isNil, readLines, fresh, readFrom, readAlone, both, readBoth}
@@ -70,16 +71,16 @@ module _ (l : List Signal) (text : ℕ) (bytes : List ℕ) where
         rule = g;
       }
 
-  entered-stand : {e : Entry} (at : ℕ) (x : List ℕ) (p : Place) (a b : Reading) → From p (split 9 x) e → Line at x → AllStand (a .signals) → entered text at a e ≡ next b
+  entered-stand : {e : Entry} (c : Spelling) (at : ℕ) (x : List ℕ) (p : Place) (a b : Reading) → From p (split 9 x) e → Line at x → AllStand (a .signals) → entered c text at a e ≡ next b
       → AllStand (b .signals)
   unfolding entered
-  entered-stand at x p a b (of-table n s f q t) h w e = subst (λ st. AllStand (st .signals)) (started-of a (value s) (value f) b e .gives) w
-  entered-stand at x p a b (of-declaration r n q t g) h w e =
-      subst (λ st. AllStand (st .signals)) (declaring-of a r _ (indexOf n (a .signals)) b e .gives)
+  entered-stand c at x p a b (of-table n s f q t) h w e = subst (λ st. AllStand (st .signals)) (started-of a (value s) (value f) b e .gives) w
+  entered-stand c at x p a b (of-declaration r n q t g) h w e =
+      subst (λ st. AllStand (st .signals)) (declaring-of c a r _ (indexOf n (a .signals)) b e .gives)
       (known-stand (a .signals) _ (indexOf n (a .signals)) (declared-stands at x r n h q g) w)
-  entered-stand at x p a b (of-step f n u q t g) h w e =
+  entered-stand c at x p a b (of-step f n u q t g) h w e =
       subst (λ st. AllStand (st .signals)) (stepping-of a (value f) (indexOf n (a .signals)) (value u) b e .gives) w
-  entered-stand at x p a b (of-refusal k least) h w e = absurd (let z : _≡_ {A = ℕ} 0 1 = cc in omega arith)
+  entered-stand c at x p a b (of-refusal k least most) h w e = absurd (let z : _≡_ {A = ℕ} 0 1 = cc in omega arith)
 
   -- The lines from the byte `at` on: the first begins there, the others behind it.
   next-line : (at : ℕ) (x y : List ℕ) (ls : List (List ℕ)) → split 10 (drop at bytes) ≡ x ∷ y ∷ ls → Line at x × (split 10 (drop (at + length x + 1) bytes) ≡ y ∷ ls)
@@ -91,51 +92,51 @@ module _ (l : List Signal) (text : ℕ) (bytes : List ℕ) where
       let i : at + length x + 1 ≡ at + (n + 1) = omega arith in
       ((drop n (drop at bytes), rw (c .first) (sym (take-append-drop n (drop at bytes)))), rw (i, ← drop-drop (n + 1) at bytes) (c .others))
 
-  lines-stand : (k at : ℕ) (a b : Reading) (ls : List (List ℕ)) → split 10 (drop at bytes) ≡ ls → AllStand (a .signals) → readLines text k at a ls ≡ finished b
+  lines-stand : (c : Spelling) (k at : ℕ) (a b : Reading) (ls : List (List ℕ)) → split 10 (drop at bytes) ≡ ls → AllStand (a .signals) → readLines c text k at a ls ≡ finished b
       → AllStand (b .signals)
   unfolding readLines
-  lines-stand k at a b [] q w e = subst (λ st. AllStand (st .signals)) (finished-same a b e) w
-  lines-stand k at a b (x ∷ []) q w e = subst (λ st. AllStand (st .signals)) (finished-same a b (unless-nil (isNil x) (finished a) _ b e)) w
-  lines-stand k at a b (x ∷ y ∷ ls) q w e =
+  lines-stand c k at a b [] q w e = subst (λ st. AllStand (st .signals)) (finished-same a b e) w
+  lines-stand c k at a b (x ∷ []) q w e = subst (λ st. AllStand (st .signals)) (finished-same a b (unless-nil (isNil x) (finished a) _ b e)) w
+  lines-stand c k at a b (x ∷ y ∷ ls) q w e =
       let (m, f, g) = onward-finished text k _ _ b e in
       let (line, rest) = next-line at x y ls q in
-      lines-stand (suc k) (at + length x + 1) m b (y ∷ ls) rest (entered-stand at x (a .place) a m (from-line (a .place) x) line w f) g
+      lines-stand c (suc k) (at + length x + 1) m b (y ∷ ls) rest (entered-stand c at x (a .place) a m (from-line (a .place) x) line w f) g
 
   -- In an accepted text each signal that is new there has its name where it says.
-  pub all-stand : (room : ℕ) (st : Reading) → readFrom l text room bytes ≡ finished st → AllStand (st .signals)
-  all-stand room st e =
-      let o = opened l text room bytes st e in
+  pub all-stand : (c : Spelling) (room : ℕ) (st : Reading) → readFrom c l text room bytes ≡ finished st → AllStand (st .signals)
+  all-stand c room st e =
+      let o = opened c l text room bytes st e in
       let (line, rest) = next-line 0 (o .line) (o .second) (o .lines) (o .parts) in
-      lines-stand 2 (0 + length (o .line) + 1) (o .begun) st (o .second ∷ o .lines) rest
-      (entered-stand 0 (o .line) Head (fresh l room) (o .begun) (from-line Head (o .line)) line (λ a h k. absurd (omega arith)) (o .enters)) (o .goes)
+      lines-stand c 2 (0 + length (o .line) + 1) (o .begun) st (o .second ∷ o .lines) rest
+      (entered-stand c 0 (o .line) Head (fresh l room) (o .begun) (from-line Head (o .line)) line (λ a h k. absurd (omega arith)) (o .enters)) (o .goes)
 
 -- ---- lookup
 
 -- A signal of a text read alone.
-pub lookup-part-alone : (bytes : List ℕ) (st : Reading) (a : ℕ) → readAlone ample bytes ≡ finished st → T (declares st a) → Stands 1 bytes (lookupAlone bytes a)
+pub lookup-part-alone : (c : Spelling) (bytes : List ℕ) (st : Reading) (a : ℕ) → readAlone c ample bytes ≡ finished st → T (declares st a) → Stands 1 bytes (lookupAlone c bytes a)
 unfolding lookupAlone readAlone
-lookup-part-alone bytes st a e d =
-    let w = accepted [] 1 ample bytes st (omega arith) e in
-    rw (e, is-true (declares st a) d) (all-stand [] 1 bytes ample st e a (omega arith) (w .numbered a d))
+lookup-part-alone c bytes st a e d =
+    let w = accepted c [] 1 ample bytes st (omega arith) e in
+    rw (e, is-true (declares st a) d) (all-stand [] 1 bytes c ample st e a (omega arith) (w .numbered a d))
 
 -- Two texts: a signal of the module stands in the module's text, where both declare it too; any other in the plan's.
-module _ (bytes bytes′ : List ℕ) (m p : Reading) (e : readBoth ample bytes ample bytes′ ≡ both m p) (a : ℕ) where
-  pub lookup-part-first : T (declares m a) → Stands 1 bytes (lookup bytes bytes′ a)
+module _ (c : Spelling) (bytes bytes′ : List ℕ) (m p : Reading) (e : readBoth c ample bytes ample bytes′ ≡ both m p) (a : ℕ) where
+  pub lookup-part-first : T (declares m a) → Stands 1 bytes (lookup c bytes bytes′ a)
   unfolding lookup
   lookup-part-first d =
-      let u = read-both ample bytes ample bytes′ m p e in
-      let w = accepted [] 1 ample bytes m (omega arith) (u .0) in
-      let v = accepted (m .signals) 2 ample bytes′ p (w .few-signals) (u .1) in
+      let u = read-both c ample bytes ample bytes′ m p e in
+      let w = accepted c [] 1 ample bytes m (omega arith) (u .0) in
+      let v = accepted c (m .signals) 2 ample bytes′ p (w .few-signals) (u .1) in
       let k : a < length (m .signals) = w .numbered a d in
       rw (e, is-true (declares m a || declares p a) (or-left (declares m a) (declares p a) d), v .extends, List·getD-append (m .signals) (v .more) nobody a k)
-      (all-stand [] 1 bytes ample m (u .0) a (omega arith) k)
+      (all-stand [] 1 bytes c ample m (u .0) a (omega arith) k)
 
-  pub lookup-part-second : ¬ T (declares m a) → T (declares p a) → Stands 2 bytes′ (lookup bytes bytes′ a)
+  pub lookup-part-second : ¬ T (declares m a) → T (declares p a) → Stands 2 bytes′ (lookup c bytes bytes′ a)
   unfolding lookup
   lookup-part-second n d =
-      let u = read-both ample bytes ample bytes′ m p e in
-      let w = accepted [] 1 ample bytes m (omega arith) (u .0) in
-      let v = accepted (m .signals) 2 ample bytes′ p (w .few-signals) (u .1) in
+      let u = read-both c ample bytes ample bytes′ m p e in
+      let w = accepted c [] 1 ample bytes m (omega arith) (u .0) in
+      let v = accepted c (m .signals) 2 ample bytes′ p (w .few-signals) (u .1) in
       let new : length (m .signals) ≤ a = elim (decLt a (length (m .signals))) [ yes k ↦ absurd (n (w .own a (omega arith) k)) | no g ↦ omega arith ] in
       rw (e, is-true (declares m a || declares p a) (or-right (declares m a) (declares p a) d))
-      (all-stand (m .signals) 2 bytes′ ample p (u .1) a new (v .numbered a d))
+      (all-stand (m .signals) 2 bytes′ c ample p (u .1) a new (v .numbered a d))

@@ -14,6 +14,8 @@ use Rattle.text.specs.declared.Place.{Place}
 use Rattle.text.specs.declared.Place.the-variants.{Head}
 use Rattle.text.specs.declared.Role.{Role}
 use Rattle.text.specs.declared.Role.the-variants.{Input, Output}
+use Rattle.text.specs.declared.Spelling.{Spelling}
+use Rattle.text.specs.declared.Spelling.the-variants.{Exact}
 use Rattle.text.specs.Fields.{split, value}
 use Rattle.text.specs.Lines.{Entry, table, declaration, step, refused, takesTable, parse}
 use Rattle.text.specs.Reading.{Signal, Reading, next, indexOf, known, declaring, stepping, entered, finished, isNil, readLines, fresh, readFrom}
@@ -80,7 +82,7 @@ undeclared false false n = refl
 module _ (l : List Signal) (room : ℕ) where
   -- The number of a declared name stays.
   kept-index : {a b : Reading} → Sound l room a → Keeps a b → (n : List ℕ) → T (declares a (indexOf n (a .signals))) → indexOf n (b .signals) ≡ indexOf n (a .signals)
-  kept-index {a} w u n d = ap (indexOf n) (u .signals) ∙ index-append n (a .signals) (u .more) (w .numbered (indexOf n (a .signals)) d)
+  kept-index {a} w u n d = ap (indexOf n) (u .signals) ∙ index-append Exact n (a .signals) (u .more) (w .numbered (indexOf n (a .signals)) d)
 
   only-declared : (r : Role) {p : Bool × Bool} → p ≡ only r → T (p .0 || p .1)
   only-declared Input e = subst (λ p. T (p .0 || p .1)) (sym e) tt
@@ -105,10 +107,10 @@ module _ (l : List Signal) (room : ℕ) where
     holds : Holds b e
     keeps : Keeps a b
 
-  declaring-done : (r : Role) (s : Signal) (a b : Reading) → Sound l room a → declaring a r s (indexOf (s .name) (a .signals)) ≡ next b → Done (declaration r (s .name)) a b
-  declaring-done r s a b w e =
+  declaring-done : (c : Spelling) (r : Role) (s : Signal) (a b : Reading) → Sound l room a → declaring c a r s (indexOf (s .name) (a .signals)) ≡ next b → Done (declaration r (s .name)) a b
+  declaring-done c r s a b w e =
       let i = indexOf (s .name) (a .signals) in
-      let u = declaring-of a r s i b e in
+      let u = declaring-of c a r s i b e in
       let (more, grown, same) = known-put (a .signals) s in
       subst (Done (declaration r (s .name)) a) (u .gives) (record {
         holds = rw same (roles-here r i (a .header) (u .low) (undeclared (member (a .header .inputs) i) (member (a .header .outputs) i) (u .new)));
@@ -139,38 +141,38 @@ module _ (l : List Signal) (room : ℕ) where
         };
       })
 
-  entered-done : {fs : List (List ℕ)} {e : Entry} (text at : ℕ) (a b : Reading) → From (a .place) fs e → Sound l room a → entered text at a e ≡ next b → Done e a b
+  entered-done : {fs : List (List ℕ)} {e : Entry} (c : Spelling) (text at : ℕ) (a b : Reading) → From (a .place) fs e → Sound l room a → entered c text at a e ≡ next b → Done e a b
   unfolding entered
-  entered-done text at a b (of-table n s f q t) w e = absurd (T-not (takesTable (a .place)) (w .begun) t)
-  entered-done text at a b (of-declaration r n q t g) w e = declaring-done r _ a b w e
-  entered-done text at a b (of-step f n u q t g) w e = stepping-done (value f) (value u) n a b w e
-  entered-done text at a b (of-refusal k least) w e = absurd (let z : _≡_ {A = ℕ} 0 1 = cc in omega arith)
+  entered-done c text at a b (of-table n s f q t) w e = absurd (T-not (takesTable (a .place)) (w .begun) t)
+  entered-done c text at a b (of-declaration r n q t g) w e = declaring-done c r _ a b w e
+  entered-done c text at a b (of-step f n u q t g) w e = stepping-done (value f) (value u) n a b w e
+  entered-done c text at a b (of-refusal k least most) w e = absurd (let z : _≡_ {A = ℕ} 0 1 = cc in omega arith)
 
   -- ---- all lines
 
-  lines-hold : (text k at : ℕ) (a b : Reading) (ls : List (List ℕ)) → Sound l room a → readLines text k at a ls ≡ finished b → Keeps a b × AllHold b ls
+  lines-hold : (c : Spelling) (text k at : ℕ) (a b : Reading) (ls : List (List ℕ)) → Sound l room a → readLines c text k at a ls ≡ finished b → Keeps a b × AllHold b ls
   unfolding readLines
-  lines-hold text k at a b [] w e = (subst (Keeps a) (finished-same a b e) (keeps-self a), tt)
-  lines-hold text k at a b (x ∷ []) w e = (subst (Keeps a) (finished-same a b (unless-nil (isNil x) (finished a) _ b e)) (keeps-self a), tt)
-  lines-hold text k at a b (x ∷ y ∷ ls) w e =
+  lines-hold c text k at a b [] w e = (subst (Keeps a) (finished-same a b e) (keeps-self a), tt)
+  lines-hold c text k at a b (x ∷ []) w e = (subst (Keeps a) (finished-same a b (unless-nil (isNil x) (finished a) _ b e)) (keeps-self a), tt)
+  lines-hold c text k at a b (x ∷ y ∷ ls) w e =
       let (m, p, q) = onward-finished text k _ _ b e in
-      let d = entered-done text at a m (from-line (a .place) x) w p in
-      let v = entered-sound l room text at a m (from-line (a .place) x) w p in
-      let (u, h) = lines-hold text (suc k) (at + length x + 1) m b (y ∷ ls) v q in
+      let d = entered-done c text at a m (from-line (a .place) x) w p in
+      let v = entered-sound l room c text at a m (from-line (a .place) x) w p in
+      let (u, h) = lines-hold c text (suc k) (at + length x + 1) m b (y ∷ ls) v q in
       (keeps-then (d .keeps) u, ((a .place, holds-kept (parse (a .place) x) v u (d .holds)), h))
 
-  first-holds : {fs : List (List ℕ)} {e : Entry} (text at : ℕ) (b : Reading) → From Head fs e → entered text at (fresh l room) e ≡ next b → Holds b e
+  first-holds : {fs : List (List ℕ)} {e : Entry} (c : Spelling) (text at : ℕ) (b : Reading) → From Head fs e → entered c text at (fresh l room) e ≡ next b → Holds b e
   unfolding entered
-  first-holds text at b (of-table n s f q t) e =
+  first-holds c text at b (of-table n s f q t) e =
       subst (λ st. Holds st (table (value s) (value f))) (started-of (fresh l room) (value s) (value f) b e .gives) (refl, refl)
-  first-holds text at b (of-declaration r n q t g) e = absurd t
-  first-holds text at b (of-step f n u q t g) e = absurd t
-  first-holds text at b (of-refusal k least) e = absurd (let z : _≡_ {A = ℕ} 0 1 = cc in omega arith)
+  first-holds c text at b (of-declaration r n q t g) e = absurd t
+  first-holds c text at b (of-step f n u q t g) e = absurd t
+  first-holds c text at b (of-refusal k least most) e = absurd (let z : _≡_ {A = ℕ} 0 1 = cc in omega arith)
 
-  pub all-hold : (text : ℕ) (bytes : List ℕ) (st : Reading) → length l ≤ 32 → readFrom l text room bytes ≡ finished st → AllHold st (split 10 bytes)
-  all-hold text bytes st few e =
-      let o = opened l text room bytes st e in
-      let w = opened-sound l text room o few in
-      let (u, h) = lines-hold text 2 (0 + length (o .line) + 1) (o .begun) st (o .second ∷ o .lines) w (o .goes) in
-      let k : Holds (o .begun) (parse Head (o .line)) = first-holds text 0 (o .begun) (from-line Head (o .line)) (o .enters) in
+  pub all-hold : (c : Spelling) (text : ℕ) (bytes : List ℕ) (st : Reading) → length l ≤ 32 → readFrom c l text room bytes ≡ finished st → AllHold st (split 10 bytes)
+  all-hold c text bytes st few e =
+      let o = opened c l text room bytes st e in
+      let w = opened-sound c l text room o few in
+      let (u, h) = lines-hold c text 2 (0 + length (o .line) + 1) (o .begun) st (o .second ∷ o .lines) w (o .goes) in
+      let k : Holds (o .begun) (parse Head (o .line)) = first-holds c text 0 (o .begun) (from-line Head (o .line)) (o .enters) in
       rw (o .parts) ((Head, holds-kept (parse Head (o .line)) w u k), h)

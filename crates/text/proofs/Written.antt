@@ -18,7 +18,9 @@ use Rattle.theory.proofs.Bounded.{any-cong}
 use Rattle.theory.proofs.Checks.{passed-first, orElse, first-append, first-accepted, first-part, checks-valid}
 use Rattle.theory.proofs.Options.{is-some}
 use Rattle.theory.proofs.Tests.{or-cases, or-right}
-use Rattle.text.specs.Fields.{same, nameOk}
+use Rattle.text.specs.declared.Spelling.{Spelling}
+use Rattle.text.specs.declared.Spelling.the-variants.{Exact, Folded}
+use Rattle.text.specs.Fields.{matches, nameOk}
 use Rattle.text.specs.Writing.{tabbed, printed, those, signals, nameOf, signalRow, stepRow, stepRows, wholeText, hasStep, enabledSignals, misnamed, ambiguous, textLength, tooLong, writerChecks, writerBytes, SameWriting}
 use Rattle.text.proofs.Ascending.{In, Ascending, in-those, those-ascending, those-in}
 
@@ -85,11 +87,11 @@ module _ (t : Table) (name : List ℕ) (names names′ : List (List ℕ)) (calle
       go a true e = rw (called a (rw e tt))
       go a false e = refl
 
-  ambiguous-same : ambiguous t name names ≡ ambiguous t name names′
-  ambiguous-same = any-cong 32 _ _ (λ a h. any-cong a _ _ (λ b k. go a b (declared t a) refl (declared t b) refl))
+  ambiguous-same : (c : Spelling) → ambiguous t name names c ≡ ambiguous t name names′ c
+  ambiguous-same c = any-cong 32 _ _ (λ a h. any-cong a _ _ (λ b k. go a b (declared t a) refl (declared t b) refl))
     where
       go : (a b : ℕ) (x : Bool) → declared t a ≡ x → (y : Bool) → declared t b ≡ y
-          → ((x && y) && same (nameOf names a) (nameOf names b)) ≡ ((x && y) && same (nameOf names′ a) (nameOf names′ b))
+          → ((x && y) && matches c (nameOf names a) (nameOf names b)) ≡ ((x && y) && matches c (nameOf names′ a) (nameOf names′ b))
       go a b true e true f = rw (called a (rw e tt), called b (rw f tt))
       go a b true e false f = refl
       go a b false e y f = refl
@@ -100,10 +102,11 @@ module _ (t : Table) (name : List ℕ) (names names′ : List (List ℕ)) (calle
     where
       later : List (List ℕ) → List Check
       later l =
-          unplaced 16 0 (not (nameOk name)) ∷ unplaced 16 0 (misnamed t name l) ∷ unplaced 18 0 (ambiguous t name l) ∷ unplaced 23 0 (tooLong t name l room) ∷ []
+          unplaced 16 0 (not (nameOk name)) ∷ unplaced 16 0 (misnamed t name l) ∷ unplaced 18 0 (ambiguous t name l Exact) ∷ unplaced 28 0 (ambiguous t name l Folded)
+          ∷ unplaced 23 0 (tooLong t name l room) ∷ []
 
       go : (k : Checked) → first (tableChecks 1 t) ≡ k → orElse k (first (later names)) ≡ orElse k (first (later names′))
-      go Accepted e = rw (misnamed-same, ambiguous-same, text-same (checks-valid 1 t .0 e))
+      go Accepted e = rw (misnamed-same, ambiguous-same Exact, ambiguous-same Folded, text-same (checks-valid 1 t .0 e))
       go (Refused r) e = refl
 
 -- Equal tables, names and numbering have equal texts. A step by an undeclared signal would bring in a name that is not asked for, so the table is
@@ -123,12 +126,12 @@ unfolding writerChecks
 enough-room t name names room other e h =
     let n = textLength t name names in
     let (valid, rest) = first-part (tableChecks 1 t) _ e in
-    let (a, (b, (c, (d, _)))) = passed-first _ .0 rest in
+    let (a, (b, (c, (d, (g, _))))) = passed-first _ .0 rest in
     let fits : ¬ T (ltb other n || ltb 65536 n) = λ z. elim (or-cases (ltb other n) (ltb 65536 n) z) [
       | inl l ↦ omega (arith, ltb→lt other n l)
-      | inr l ↦ d (or-right (ltb room n) (ltb 65536 n) l)
+      | inr l ↦ g (or-right (ltb room n) (ltb 65536 n) l)
     ] in
-    first-accepted (tableChecks 1 t) _ valid ∙ passed-first _ .1 (a, (b, (c, (fits, tt))))
+    first-accepted (tableChecks 1 t) _ valid ∙ passed-first _ .1 (a, (b, (c, (d, (fits, tt)))))
 
 -- ---- the lent bytes
 

@@ -4,6 +4,8 @@ use mathlib.Core.List.{List, [], _∷_}
 use Prim.Native.Nat.{ℕ, suc, _+_, _-_, _*_}
 use lib.Dec.{eqb, leb}
 use lib.ListN.{length, getD}
+use Rattle.text.specs.declared.Spelling.{Spelling}
+use Rattle.text.specs.declared.Spelling.the-variants.{Exact, Folded}
 use Rattle.text.specs.declared.Number.{Number}
 use Rattle.text.specs.declared.Number.the-variants.{Value, Bad}
 
@@ -24,17 +26,36 @@ unfoldable pub upto : ℕ → List ℕ → ℕ
 upto b [] = 0
 upto b (x ∷ s) = cond (eqb x b) 0 (suc (upto b s))
 
--- The same bytes.
-unfoldable pub same : List ℕ → List ℕ → Bool
-same [] [] = true
-same [] (y ∷ t) = false
-same (x ∷ s) [] = false
-same (x ∷ s) (y ∷ t) = eqb x y && same s t
-
 -- All bytes pass the test.
 unfoldable pub all : (ℕ → Bool) → List ℕ → Bool
 all f [] = true
 all f (x ∷ s) = f x && all f s
+
+-- ---- comparing
+
+-- A capital letter of ASCII as its small one; any other byte as it is.
+abbrev pub lower : ℕ → ℕ
+lower x = cond (leb 65 x && leb x 90) (x + 32) x
+
+-- A byte in a spelling (02, S-9).
+abbrev pub spelled : Spelling → ℕ → ℕ
+spelled Exact x = x
+spelled Folded x = lower x
+
+-- The same bytes in a spelling.
+unfoldable pub matches : Spelling → List ℕ → List ℕ → Bool
+matches c [] [] = true
+matches c [] (y ∷ t) = false
+matches c (x ∷ s) [] = false
+matches c (x ∷ s) (y ∷ t) = eqb (spelled c x) (spelled c y) && matches c s t
+
+-- The same bytes.
+abbrev pub same : List ℕ → List ℕ → Bool
+same s t = matches Exact s t
+
+-- Different bytes, which differ in the case of letters alone: the names clash (02, S-9).
+abbrev pub clash : List ℕ → List ℕ → Bool
+clash s t = matches Folded s t && not (same s t)
 
 -- ---- names: 1 to 16 letters, digits or underscores of ASCII
 

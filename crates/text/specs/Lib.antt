@@ -3,3 +3,4 @@ pub mod Lines
 pub mod Reading
 pub mod Writing
 pub mod Lookup
+pub mod Clashes

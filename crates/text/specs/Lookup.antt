@@ -5,6 +5,7 @@ use Prim.Native.Nat.{ℕ}
 use lib.ListN.{getD}
 use Rattle.theory.specs.Table.{table}
 use Rattle.theory.specs.Checks.{declared}
+use Rattle.text.specs.declared.Spelling.{Spelling}
 use Rattle.text.specs.Reading.{Signal, Reading, Outcome, finished, ended, readAlone, Joint, both, neither, readBoth}
 
 -- Cells enough for any table: a lookup reads into so many of its own, and 10 never applies to it (proofs/NeverTen.antt).
@@ -30,11 +31,11 @@ abbrev pub numberOf : Joint → ℕ → ℕ
 numberOf (both m p) a = cond (declares m a || declares p a) 0 12
 numberOf (neither r) a = r .number
 
-unfoldable pub lookup : List ℕ → List ℕ → ℕ → Signal
-lookup m p a = signalOf (readBoth ample m ample p) a
+unfoldable pub lookup : Spelling → List ℕ → List ℕ → ℕ → Signal
+lookup c m p a = signalOf (readBoth c ample m ample p) a
 
-unfoldable pub lookupNumber : List ℕ → List ℕ → ℕ → ℕ
-lookupNumber m p a = numberOf (readBoth ample m ample p) a
+unfoldable pub lookupNumber : Spelling → List ℕ → List ℕ → ℕ → ℕ
+lookupNumber c m p a = numberOf (readBoth c ample m ample p) a
 
 -- ---- in a text read alone
 
@@ -46,8 +47,8 @@ abbrev pub numberAlone : Outcome → ℕ → ℕ
 numberAlone (finished st) a = cond (declares st a) 0 12
 numberAlone (ended r) a = r .number
 
-unfoldable pub lookupAlone : List ℕ → ℕ → Signal
-lookupAlone m a = signalAlone (readAlone ample m) a
+unfoldable pub lookupAlone : Spelling → List ℕ → ℕ → Signal
+lookupAlone c m a = signalAlone (readAlone c ample m) a
 
-unfoldable pub lookupNumberAlone : List ℕ → ℕ → ℕ
-lookupNumberAlone m a = numberAlone (readAlone ample m) a
+unfoldable pub lookupNumberAlone : Spelling → List ℕ → ℕ → ℕ
+lookupNumberAlone c m a = numberAlone (readAlone c ample m) a

@@ -11,7 +11,9 @@ use Rattle.theory.specs.Table.{Table, automaton, cellAt, member}
 use Rattle.theory.specs.Checks.{Check, unplaced, first, unlessRefused, declared, tableChecks}
 use Rattle.text.specs.declared.Role.{Role}
 use Rattle.text.specs.declared.Role.the-variants.{Input, Output}
-use Rattle.text.specs.Fields.{same, nameOk}
+use Rattle.text.specs.declared.Spelling.{Spelling}
+use Rattle.text.specs.declared.Spelling.the-variants.{Exact, Folded}
+use Rattle.text.specs.Fields.{matches, nameOk}
 use Rattle.text.specs.Lines.{tableWord, roleWord, stepWord}
 
 -- ---- numbers
@@ -84,16 +86,16 @@ unfoldable pub wholeText : Table → List ℕ → List (List ℕ) → List ℕ
 wholeText t name names =
     printed (tableRow t name ∷ map (signalRow t names) (signals t) ++ stepRows t names 0 (t .header .states))
 
--- ---- the writer's checks: 1 to 6, 16 (table name, then signals), 18 for equal signal names, 23
+-- ---- the writer's checks: 1 to 6, 16 (table name, then signals), 18 for equal signal names, 28 for names that clash (02, S-9), 23
 
 module _ (t : Table) (name : List ℕ) (names : List (List ℕ)) where
   -- A declared signal's name breaks the name rule.
   abbrev pub misnamed : Bool
   misnamed = any 32 (λ a. declared t a && not (nameOk (nameOf names a)))
 
-  -- Two declared signals have equal names.
-  abbrev pub ambiguous : Bool
-  ambiguous = any 32 (λ a. any a (λ b. (declared t a && declared t b) && same (nameOf names a) (nameOf names b)))
+  -- The names of two declared signals match in a spelling. Equal names are refused before those that clash.
+  abbrev pub ambiguous : Spelling → Bool
+  ambiguous c = any 32 (λ a. any a (λ b. (declared t a && declared t b) && matches c (nameOf names a) (nameOf names b)))
 
   unfoldable pub textLength : ℕ
   textLength = length (wholeText t name names)
@@ -104,7 +106,9 @@ module _ (t : Table) (name : List ℕ) (names : List (List ℕ)) where
 
   unfoldable pub writerChecks : ℕ → List Check
   writerChecks room =
-      tableChecks 1 t ++ (unplaced 16 0 (not (nameOk name)) ∷ unplaced 16 0 misnamed ∷ unplaced 18 0 ambiguous ∷ unplaced 23 0 (tooLong room) ∷ [])
+      tableChecks 1 t
+      ++ (unplaced 16 0 (not (nameOk name)) ∷ unplaced 16 0 misnamed ∷ unplaced 18 0 (ambiguous Exact) ∷ unplaced 28 0 (ambiguous Folded)
+      ∷ unplaced 23 0 (tooLong room) ∷ [])
 
   -- The lent bytes after the call: the text, then the bytes as they were; all of them after a refusal.
   unfoldable pub writerBytes : List ℕ → List ℕ

@@ -13,6 +13,12 @@ pub enum Role {
     Output,
 }
 
+// How names are compared: byte by byte, document 01's rule, which the archive reading keeps; or with the letters A to Z taken for a to z (document 02, S-9).
+pub enum Spelling {
+    Exact,
+    Folded,
+}
+
 // A decimal number by document 01's number rule.
 pub enum Number {
     Value(usize),
@@ -25,4 +31,16 @@ pub struct TextRefusal {
     pub number: u32,
     pub text: u32,
     pub line: usize,
+}
+
+// Where a name is first declared: in which text (1 the first, 2 the second), and in which of its lines, from 1.
+pub struct Declaration {
+    pub text: u32,
+    pub line: usize,
+}
+
+// A name that differs from one declared before it in the case of letters alone, and the first that it so differs from.
+pub struct Clash {
+    pub later: Declaration,
+    pub first: Declaration,
 }

@@ -1,6 +1,6 @@
 use mathlib.Core.Path.{sym, _∙_}
 use Rattle.names.proofs.Names.{named-all}
-use Rattle.names.proofs.Checks.{names-table, names-signals, names-repeated, names-pass}
+use Rattle.names.proofs.Checks.{names-table, names-signals, names-repeated, names-clash, names-pass}
 use borrow.Author.Needs.{needs}
 use Rattle.names.proofs.check.Statement.{statement}
 use Rattle.names.proofs.check.Tie as tie
@@ -44,13 +44,29 @@ returns-3 c =
     names-repeated (e .before .before .before .args .a) _ _ _ (e .before .is-name .ensures) (e .if1 .left) _ (m .before .declared .ensures) _ (m .is-misnamed .ensures) (r .before .if2 .left)
     _ (r .is-repeated .ensures) (c .before .if3 .taken) _ (c .refuse3 .ensures)
 
+is-repeated-requires-2 : tie.Need-is-repeated-requires-2
+is-repeated-requires-2 c κs = let r = c .before in named-all _ _ (sym (r .before .before .is-misnamed .ensures) ∙ r .before .if2 .left)
+
+refuse-requires-4 : tie.Need-refuse-requires-4
+refuse-requires-4 c κs = search needs
+
 returns-4 : tie.Need-returns-4
 returns-4 c =
-    let r = c .before in
+    let s = c .before .before in
+    let r = s .before .before in
+    let m = r .before .before in
+    let e = m .before .before in
+    names-clash (e .before .before .before .args .a) _ _ _ (e .before .is-name .ensures) (e .if1 .left) _ (m .before .declared .ensures) _ (m .is-misnamed .ensures) (r .before .if2 .left)
+    _ (r .is-repeated .ensures) (s .before .if3 .left) _ (s .is-repeated2 .ensures) (c .before .if4 .taken) _ (c .refuse4 .ensures)
+
+returns-5 : tie.Need-returns-5
+returns-5 c =
+    let s = c .before in
+    let r = s .before .before in
     let m = r .before .before in
     let e = m .before .before in
     names-pass (e .before .before .before .args .a) _ _ _ (e .before .is-name .ensures) (e .if1 .left) _ (m .before .declared .ensures) _ (m .is-misnamed .ensures) (r .before .if2 .left)
-    _ (r .is-repeated .ensures) (c .if3 .left)
+    _ (r .is-repeated .ensures) (s .before .if3 .left) _ (s .is-repeated2 .ensures) (c .if4 .left)
 
 pub check-spec : {M : Type 1} → statement M
 check-spec =
@@ -66,4 +82,7 @@ check-spec =
     is-repeated-requires
     refuse-requires-3
     returns-3
-    returns-4)
+    is-repeated-requires-2
+    refuse-requires-4
+    returns-4
+    returns-5)

@@ -11,11 +11,11 @@ use Rattle.names.proofs.is_repeated.Statement.{statement}
 use Rattle.names.proofs.is_repeated.Tie as tie
 
 abbrev Inv-loop : tie.InvT-loop
-Inv-loop signals names left₀ left =
-    (left < 2 ^ 32) × Named left (texts names) × (repeated left (texts names) ≡ repeated signals (texts names))
+Inv-loop spelling signals names left₀ left =
+    (left < 2 ^ 32) × Named left (texts names) × (repeated spelling left (texts names) ≡ repeated spelling signals (texts names))
 
 abbrev μ-loop : tie.MeasureT-loop
-μ-loop signals names left₀ left = left
+μ-loop spelling signals names left₀ left = left
 
 -- The visited signal has an entry.
 below : (c : tie.After-lowest Inv-loop μ-loop) → c .lowest .result < length (c .before .before .before .args .names .now)
@@ -52,7 +52,7 @@ returns : tie.Need-returns Inv-loop μ-loop
 returns c =
     let s = c .before .before .before .before in
     let l = s .before .before in
-    repeated-found _ _ (l .loop .left) (l .loop .inv .0) (l .loop .inv .2) (s .before .loop-test .taken) _ (s .lowest .ensures)
+    repeated-found _ _ _ (l .loop .left) (l .loop .inv .0) (l .loop .inv .2) (s .before .loop-test .taken) _ (s .lowest .ensures)
     _ (name-lent (l .before .args .names .now) _ _ (below s)) _ (c .before .before .before .rest .ensures) _ (c .before .is-taken .ensures) (c .if1 .taken)
 
 loop-less : tie.Need-loop-less Inv-loop μ-loop
@@ -66,12 +66,12 @@ loop-again c =
     let rest = c .before .before .before .rest .ensures in (
       omega (arith, rest),
       rw rest (named-rest _ (l .loop .left) (l .loop .inv .0) more (l .loop .inv .1)),
-      repeated-again _ _ (l .loop .left) (l .loop .inv .0) (l .loop .inv .2) more _ (s .lowest .ensures)
+      repeated-again _ _ _ (l .loop .left) (l .loop .inv .0) (l .loop .inv .2) more _ (s .lowest .ensures)
           _ (name-lent (l .before .args .names .now) _ _ (below s)) _ rest _ (c .before .is-taken .ensures) (c .if1 .left),
     )
 
 returns-2 : tie.Need-returns-2 Inv-loop μ-loop
-returns-2 c = let l = c .before .loop in repeated-done _ _ (l .left) (l .inv .0) (l .inv .2) (c .loop-test .left)
+returns-2 c = let l = c .before .loop in repeated-done _ _ _ (l .left) (l .inv .0) (l .inv .2) (c .loop-test .left)
 
 pub is-repeated-spec : {M : Type 1} → statement M
 is-repeated-spec =

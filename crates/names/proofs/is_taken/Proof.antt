@@ -2,10 +2,10 @@ use native.Mathlib.Omega.{arith}
 use lib.Count.{trailingZeros}
 use lib.ListN.{length}
 use lib.Pow.{pow-pos}
-use Rattle.names.proofs.Names.{lent-length, named-lowest, named-rest, any-found, any-again, any-done, same-told}
+use Rattle.names.proofs.Names.{lent-length, named-lowest, named-rest, any-found, any-again, any-done, match-told}
 use mathlib.Core.Path.{_≡_}
 use Prim.Native.Nat.{ℕ, _^_, _<_}
-use Rattle.text.specs.Fields.{same}
+use Rattle.text.specs.Fields.{matches}
 use Rattle.text.specs.Writing.{nameOf}
 use Rattle.names.specs.Names.{texts, anyOf, Named}
 use borrow.Author.Needs.{needs}
@@ -13,11 +13,12 @@ use Rattle.names.proofs.is_taken.Statement.{statement}
 use Rattle.names.proofs.is_taken.Tie as tie
 
 abbrev Inv-loop : tie.InvT-loop
-Inv-loop signals names name left₀ left =
-    (left < 2 ^ 32) × Named left (texts names) × (anyOf left (λ (a : ℕ). same (nameOf (texts names) a) name) ≡ anyOf signals (λ (a : ℕ). same (nameOf (texts names) a) name))
+Inv-loop spelling signals names name left₀ left =
+    (left < 2 ^ 32) × Named left (texts names)
+    × (anyOf left (λ (a : ℕ). matches spelling (nameOf (texts names) a) name) ≡ anyOf signals (λ (a : ℕ). matches spelling (nameOf (texts names) a) name))
 
 abbrev μ-loop : tie.MeasureT-loop
-μ-loop signals names name left₀ left = left
+μ-loop spelling signals names name left₀ left = left
 
 -- The visited signal has an entry.
 below : (c : tie.After-lowest Inv-loop μ-loop) → c .lowest .result < length (c .before .before .before .before .args .names .now)
@@ -35,21 +36,21 @@ lowest-requires c κs = search needs
 cast-s : tie.Need-cast-s Inv-loop μ-loop
 cast-s c = search needs
 
-mul-equal : tie.Need-mul-equal Inv-loop μ-loop
-mul-equal c = search needs
+mul-matches : tie.Need-mul-matches Inv-loop μ-loop
+mul-matches c = search needs
 
-shared-slice-copy-out-equal : tie.Need-shared-slice-copy-out-equal Inv-loop μ-loop
-shared-slice-copy-out-equal c = below c
+shared-slice-copy-out-matches : tie.Need-shared-slice-copy-out-matches Inv-loop μ-loop
+shared-slice-copy-out-matches c = below c
 
-equal-requires : tie.Need-equal-requires Inv-loop μ-loop
-equal-requires c κs = search needs
+matches-requires : tie.Need-matches-requires Inv-loop μ-loop
+matches-requires c κs = search needs
 
 returns : tie.Need-returns Inv-loop μ-loop
 returns c =
     let s = c .before .before .before in
     let l = s .before .before in
     any-found _ _ _ (l .loop .inv .0) (l .loop .inv .2) (s .before .loop-test .taken) _ (s .lowest .ensures)
-    (same-told (l .before .before .args .names .now) _ _ (below s) _ _ _ (c .before .equal .ensures) (c .if1 .taken))
+    (match-told (l .before .before .args .names .now) _ _ (below s) _ _ _ _ (c .before .matches .ensures) (c .if1 .taken))
 
 rest-requires : tie.Need-rest-requires Inv-loop μ-loop
 rest-requires c κs = search needs
@@ -66,7 +67,7 @@ loop-again c =
       omega (arith, c .rest .ensures),
       rw (c .rest .ensures) (named-rest _ (l .loop .left) (l .loop .inv .0) more (l .loop .inv .1)),
       any-again _ _ _ (l .loop .inv .0) (l .loop .inv .2) more _ (s .lowest .ensures)
-          (same-told (l .before .before .args .names .now) _ _ (below s) _ _ _ (t .before .equal .ensures) (t .if1 .left)) _ (c .rest .ensures),
+          (match-told (l .before .before .args .names .now) _ _ (below s) _ _ _ _ (t .before .matches .ensures) (t .if1 .left)) _ (c .rest .ensures),
     )
 
 returns-2 : tie.Need-returns-2 Inv-loop μ-loop
@@ -81,9 +82,9 @@ is-taken-spec =
     loop-holds
     lowest-requires
     cast-s
-    mul-equal
-    shared-slice-copy-out-equal
-    equal-requires
+    mul-matches
+    shared-slice-copy-out-matches
+    matches-requires
     returns
     rest-requires
     loop-less

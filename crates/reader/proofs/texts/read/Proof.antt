@@ -22,7 +22,7 @@ same-length c = search needs
 
 returns : tie.Need-returns
 returns c =
-    reads-long _ _ _ _ _ (c .before .before .before .before .before .before .before .before .before .before .before .pre) _ (c .before .before .before .text-of .ensures .0) _ (omega arith) _ (c .before .fresh .ensures) _ (c .refuse .ensures)
+    reads-long _ _ _ _ _ _ (c .before .before .before .before .before .before .before .before .before .before .before .pre) _ (c .before .before .before .text-of .ensures .0) _ (omega arith) _ (c .before .fresh .ensures) _ (c .refuse .ensures)
 
 fresh-requires-2 : tie.Need-fresh-requires-2
 fresh-requires-2 c κs = search needs
@@ -35,7 +35,7 @@ same-length-2 c = search needs
 
 returns-2 : tie.Need-returns-2
 returns-2 c =
-    reads-none _ _ _ _ _ (c .before .before .before .before .before .before .before .before .before .before .before .before .pre) _ (c .before .before .before .before .text-of .ensures .0) _ (omega arith) (omega arith) _ (c .before .fresh2 .ensures) _ (c .refuse2 .ensures)
+    reads-none _ _ _ _ _ _ (c .before .before .before .before .before .before .before .before .before .before .before .before .pre) _ (c .before .before .before .before .text-of .ensures .0) _ (omega arith) (omega arith) _ (c .before .fresh2 .ensures) _ (c .refuse2 .ensures)
 
 read-lines-requires : tie.Need-read-lines-requires
 read-lines-requires c κs = (search (cleared, needs), short-text _ _ (c .before .before .before .text-of .ensures .0) (omega arith))

@@ -32,7 +32,7 @@ same-length-3 c = search needs
 
 returns-2 : tie.Need-returns-2
 returns-2 c =
-    both-second _ _ _ (c .before .before .before .before .before .before .before .before .before .before .before .none .ensures) _ _ _ (c .before .before .before .before .before .before .before .before .before .read .ensures) _ (search needs) _ _ (c .before .before .before .read2 .ensures) _ (c .join2 .ensures)
+    both-second _ _ _ _ (c .before .before .before .before .before .before .before .before .before .before .before .none .ensures) _ _ _ (c .before .before .before .before .before .before .before .before .before .read .ensures) _ (search needs) _ _ (c .before .before .before .read2 .ensures) _ (c .join2 .ensures)
 
 pub read-both-spec : {M : Type 1} → statement M
 read-both-spec =

@@ -13,11 +13,11 @@ use Rattle.reader.proofs.texts.read_lines.Statement.{statement}
 use Rattle.reader.proofs.texts.read_lines.Tie as tie
 
 abbrev Inv-loop : tie.InvT-loop
-Inv-loop m p text cells₀ bytes st₀ at₀ line₀ cells st at line = (at ≤ length bytes) × (line ≤ at + 1) × Sound st (length cells) × (length cells ≡ length cells₀)
-    × (readLines text line at (reading m p st cells) (split 10 (drop at bytes)) ≡ readLines text 1 0 (reading m p st₀ cells₀) (split 10 bytes))
+Inv-loop m p text spelling cells₀ bytes st₀ at₀ line₀ cells st at line = (at ≤ length bytes) × (line ≤ at + 1) × Sound st (length cells) × (length cells ≡ length cells₀)
+    × (readLines spelling text line at (reading m p st cells) (split 10 (drop at bytes)) ≡ readLines spelling text 1 0 (reading m p st₀ cells₀) (split 10 bytes))
 
 abbrev μ-loop : tie.MeasureT-loop
-μ-loop m p text cells₀ bytes st₀ at₀ line₀ cells st at line = length bytes - at
+μ-loop m p text spelling cells₀ bytes st₀ at₀ line₀ cells st at line = length bytes - at
 
 -- A line that is taken ends in the text.
 ends : (c : tie.After-known-told Inv-loop μ-loop) → c .before .before .before .before .before .before .loop .at + c .before .parsed .given .0 .1 .0 < length (now (c .before .before .before .before .before .before .before .before .text-of .result))
@@ -55,7 +55,7 @@ same-length c = search needs
 
 returns : tie.Need-returns Inv-loop μ-loop
 returns c = let l = c .before .before .before .before .before .before .before in
-    told-unread _ _ _ _ _ (l .before .fresh .ensures) _ (l .before .before .before .before .before .before .pre .0) _ (l .before .before .text-of .ensures .0) _ _ _ _ (l .loop .inv .2 .fit) (l .loop .inv .4) (omega arith)
+    told-unread _ _ _ _ _ _ (l .before .fresh .ensures) _ (l .before .before .before .before .before .before .pre .0) _ (l .before .before .text-of .ensures .0) _ _ _ _ (l .loop .inv .2 .fit) (l .loop .inv .4) (omega arith)
     _ (c .before .before .before .before .before .after .ensures .0) _ (c .before .before .before .before .parse .ensures) _ (c .before .before .enum-told .given .1) _ (c .before .refusal-of .ensures) _ (c .refuse .ensures)
 
 add-end : tie.Need-add-end Inv-loop μ-loop
@@ -74,7 +74,7 @@ same-length-2 c = omega (arith, c .before .before .before .before .before .befor
 
 returns-2 : tie.Need-returns-2 Inv-loop μ-loop
 returns-2 c = let l = c .before .before .before .before .before .before .before .before .before .before .before .before in
-    told-refused _ _ _ _ _ (l .before .fresh .ensures) _ (l .before .before .before .before .before .before .pre .0) _ (l .before .before .text-of .ensures .0) _ _ _ _ (l .loop .inv .2 .fit) (l .loop .inv .4) (omega (arith, ends (c .before .before .before .before .before .before)))
+    told-refused _ _ _ _ _ _ (l .before .fresh .ensures) _ (l .before .before .before .before .before .before .pre .0) _ (l .before .before .text-of .ensures .0) _ _ _ _ (l .loop .inv .2 .fit) (l .loop .inv .4) (omega (arith, ends (c .before .before .before .before .before .before)))
     _ (c .before .before .before .before .before .before .before .before .before .before .after .ensures .0) _ (c .before .before .before .before .before .before .before .before .before .parse .ensures) _ _ (c .before .before .before .before .before .before .before .parsed .given .1) _ refl _ _ (c .before .before .before .before .enter .ensures) (search needs) _ (c .refuse2 .ensures)
 
 add-at : tie.Need-add-at Inv-loop μ-loop
@@ -93,7 +93,7 @@ loop-again c = let l = c .before .before .before .before .before .before .before
       omega arith,
       search needs,
       search needs,
-      told-next _ _ _ _ _ (l .before .fresh .ensures) _ (l .before .before .before .before .before .before .pre .0) _ (l .before .before .text-of .ensures .0) _ _ _ _ (l .loop .inv .2 .fit) (l .loop .inv .4) (omega arith)
+      told-next _ _ _ _ _ _ (l .before .fresh .ensures) _ (l .before .before .before .before .before .before .pre .0) _ (l .before .before .text-of .ensures .0) _ _ _ _ (l .loop .inv .2 .fit) (l .loop .inv .4) (omega arith)
           _ (c .before .before .before .before .before .before .before .before .before .before .after .ensures .0) _ (c .before .before .before .before .before .before .before .before .before .parse .ensures) _ _ (c .before .before .before .before .before .before .before .parsed .given .1) _ refl _ _ (c .before .before .before .before .enter .ensures) (search needs),
     )
 

@@ -13,7 +13,7 @@ same-length : tie.Need-same-length
 same-length c = search needs
 
 returns : tie.Need-returns
-returns c = reads-one _ _ (c .before .before .before .before .none .ensures) _ _ _ (c .before .before .read .ensures)
+returns c = reads-one _ _ _ (c .before .before .before .before .none .ensures) _ _ _ (c .before .before .read .ensures)
 
 pub read-one-spec : {M : Type 1} → statement M
 read-one-spec = tie.close (tie.spec none-requires read-requires same-length returns)

@@ -1,0 +1,33 @@
+// The lister of clashes but for its reading and printing (document 02, S-9).
+ghost use mathlib.Core.Path.{_≡_};
+ghost use Prim.Native.Nat.{_≤_};
+ghost use lib.ListN.{length};
+ghost use Rattle.emit.specs.Buffer.{after, stored};
+ghost use Rattle.program.specs.Run.{clashesText, clashesCells};
+use files::File;
+
+// The lister of clashes, by what came of its two files: 24 for the first unreadable one, else what is listed. Each text stands at the start of its buffer.
+pub fn clashes<'a>(
+    first: File,
+    second: File,
+    m: &'a [u8],
+    p: &'a [u8],
+    cm: &mut [u16],
+    cp: &mut [u16],
+    out: &mut [u8],
+) -> usize
+    ensures { λ r. ⌜ r ≡ after (length (now (out .entry))) 0 (clashesText first second (now (m .entry)) (now (p .entry)) (length (now (cm .entry))) (length (now (cp .entry)))) ⌝ }
+    ensures { λ r. ⌜ now (out .exit) ≡ stored (now (out .entry)) 0 (clashesText first second (now (m .entry)) (now (p .entry)) (length (now (cm .entry))) (length (now (cp .entry)))) ⌝ }
+    ensures { λ _. ⌜ (now (cm .exit), now (cp .exit)) ≡ clashesCells first second (now (m .entry)) (now (p .entry)) (now (cm .entry)) (now (cp .entry)) ⌝ }
+    ensures { λ r. ⌜ r ≤ 768 ⌝ }
+{
+    let File::Bytes(i) = first else {
+        return printout::refusal_line(out, 0, 1, 24, 0);
+    };
+    let File::Bytes(j) = second else {
+        return printout::refusal_line(out, 0, 2, 24, 0);
+    };
+    let module = scan::before(m, i);
+    let plan = scan::before(p, j);
+    listing::list(module, plan, cm, cp, out)
+}
