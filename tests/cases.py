@@ -1,11 +1,17 @@
 #!/usr/bin/env python3
-"""Runs the program on each folder of tests/cases and compares what it prints with the folder's file stdout, byte for byte. A folder has
-module.tab and plan.tab, or lacks one that cannot be read, and a note of what it tries. The program runs in a copy of the folder.
+"""Runs the programs on folders and compares what they print with files of expected output, byte for byte. A folder has module.tab and plan.tab,
+or lacks one that cannot be read, and a note of what it tries.
 
-    cases.py [WORD ..]    the words stand before the program's path, as `valgrind -q --error-exitcode=9`
+    tests/cases    stdout is what the main program `sequencer` prints
+    tests/clash    stdout is what the lister `clashes` prints, and main what the main program prints
+
+A program runs in a copy of the folder that has no expected output.
+
+    cases.py [WORD ..]    the words stand before a program's path, as `valgrind -q --error-exitcode=9`
 
 The last line is 'N passed, M failed', and the exit status says the same."""
 import concurrent.futures
+import functools
 import os
 import shutil
 import subprocess
@@ -13,20 +19,27 @@ import sys
 import tempfile
 
 TOP = os.path.join(os.path.dirname(os.path.abspath(__file__)), "..")
-CASES = os.path.join(TOP, "tests", "cases")
-COMMAND = sys.argv[1:] + [os.path.abspath(os.path.join(TOP, "target", "bin", "sequencer"))]
+# The folder of cases, the file of expected output, the program.
+TRIED = (
+    (os.path.join("tests", "cases"), "stdout", "sequencer"),
+    (os.path.join("tests", "clash"), "stdout", "clashes"),
+    (os.path.join("tests", "clash"), "main", "sequencer"),
+)
 
 
-def fault(case):
+def command(program):
+    return sys.argv[1:] + [os.path.abspath(os.path.join(TOP, "target", "bin", program))]
+
+
+def fault(case, output, program):
     """What is wrong with a case, or None."""
-    with open(os.path.join(case, "stdout"), "rb") as file:
+    with open(os.path.join(case, output), "rb") as file:
         expected = file.read()
     with tempfile.TemporaryDirectory() as folder:
         copy = os.path.join(folder, "case")
-        shutil.copytree(case, copy)
-        os.remove(os.path.join(copy, "stdout"))
+        shutil.copytree(case, copy, ignore=shutil.ignore_patterns("stdout", "main"))
         try:
-            run = subprocess.run(COMMAND, cwd=copy, stdin=subprocess.DEVNULL, capture_output=True, timeout=60)
+            run = subprocess.run(command(program), cwd=copy, stdin=subprocess.DEVNULL, capture_output=True, timeout=60)
         except OSError as error:
             return f"the program cannot be run: {error}"
         except subprocess.TimeoutExpired:
@@ -40,22 +53,35 @@ def fault(case):
     return None
 
 
-def unwritten():
-    """What is wrong where the report cannot be written: it has to be told of on standard error. None if nothing is."""
+def unwritten(folder, program):
+    """What is wrong where the program cannot write what it prints for the folder: it has to say so on standard error. None if nothing is."""
     with open("/dev/full", "wb") as full:
-        run = subprocess.run(COMMAND, cwd=os.path.join(TOP, "examples", "ref"), stdin=subprocess.DEVNULL, stdout=full, stderr=subprocess.PIPE)
-    return None if b"could not be written" in run.stderr else "a report that cannot be written is not told of"
+        try:
+            run = subprocess.run(command(program), cwd=os.path.join(TOP, folder), stdin=subprocess.DEVNULL, stdout=full, stderr=subprocess.PIPE)
+        except OSError as error:
+            return f"the program cannot be run: {error}"
+    return None if b"could not be written" in run.stderr else "output that cannot be written is not told of"
+
+
+def trials():
+    """What is tried, each with a name and a call that gives what is wrong or None."""
+    for folder, output, program in TRIED:
+        names = sorted(os.listdir(os.path.join(TOP, folder)))
+        if not names:
+            yield folder, lambda: "no case"
+        for name in names:
+            yield f"{program} {name}", functools.partial(fault, os.path.join(TOP, folder, name), output, program)
+    yield "sequencer, no room for the report", functools.partial(unwritten, os.path.join("examples", "ref"), "sequencer")
+    yield "clashes, no room for the list", functools.partial(unwritten, os.path.join("tests", "clash", "003-within-plan"), "clashes")
+    yield "clashes, no room for a refusal", functools.partial(unwritten, os.path.join("tests", "clash", "021-no-module"), "clashes")
 
 
 def main():
     passed, failed = 0, 0
-    names = sorted(os.listdir(CASES))
-    if not names:
-        failed += 1
-        print("no case")
+    tried = list(trials())
     with concurrent.futures.ThreadPoolExecutor(os.cpu_count()) as pool:
-        faults = list(pool.map(lambda name: fault(os.path.join(CASES, name)), names))
-    for name, wrong in [*zip(names, faults), ("no room for the report", unwritten())]:
+        faults = list(pool.map(lambda trial: trial[1](), tried))
+    for (name, _), wrong in zip(tried, faults):
         if wrong is None:
             passed += 1
         else:

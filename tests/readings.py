@@ -1,5 +1,6 @@
 #!/usr/bin/env python3
-"""A plain reading of table text, written from document 01 ("Table text", refusals 13 to 22, 1, 2, 10, 12), apart from the library.
+"""A plain reading of table text, written from document 01 ("Table text", refusals 13 to 22, 1, 2, 10, 12) and S-9 of document 02 (28), apart from
+the library.
 
     readings.py            works out what the program `readings` has to write for the texts in its data/, and compares crates/readings/stdout
     readings.py --write    prints it
@@ -105,6 +106,8 @@ class Table:
     def declaration(self, kind, name):
         if name in self.lists:
             return 18
+        if any(known != name and known.lower() == name.lower() for known in self.signals):
+            return 28
         if name not in self.signals:
             if len(self.signals) == 32:
                 return 21

@@ -1,7 +1,7 @@
 #!/usr/bin/env bash
-# The library and the program against an independent implementation of document 01, tests/reference: compiles the reference with the two
+# The library and the programs against an independent implementation of the papers, tests/reference: compiles the reference with the two
 # archives, and compares on random and on all small tables, texts and sequencers. The last line is 'N passed, M failed'.
-# It is run after `rt ci`, which leaves the program in target/bin, and archives.sh. With the argument `soak` it takes twenty times as many cases, and its seed
+# It is run after `rt ci`, which leaves the programs in target/bin, and archives.sh. With the argument `soak` it takes twenty times as many cases, and its seed
 # from the date; the seed is printed, and the number of a failed case beside it repeats the case (tests/reference/main.rs says how).
 script=reference
 . "$(dirname -- "$0")/counted.sh" || { echo "0 passed, 1 failed"; exit 1; }
@@ -36,11 +36,11 @@ run() {
 
 echo "reference: seed $seed"
 try "comparison compiles" compile
-run selftest tests/cases
+run selftest tests/cases tests/clash
 run tables "$seed" "$((100000 * times))"
 run texts "$seed" "$((25000 * times))"
 run demand3 "$seed" "$((5000 * times))"
 run substitution "$seed" "$((30000 * times))"
-run program "$seed" "$((300 * times))" "$work/run" target/bin/sequencer
+run program "$seed" "$((300 * times))" "$work/run" target/bin/sequencer target/bin/clashes
 
 finished=yes

@@ -3,6 +3,7 @@
 use crate::program::Buffers;
 use crate::reply::Reply;
 use crate::table::Table;
+use crate::text::Rule;
 
 /// A lent part of memory, as an array of names holds it.
 #[repr(C)]
@@ -57,12 +58,23 @@ extern "C" {
     fn harness_count_steps(states: usize, cells: *const u16, length: usize) -> usize;
     fn harness_count_ends(states: usize, cells: *const u16, length: usize) -> usize;
     fn harness_read_alone(text: *const u8, length: usize, cells: *mut u16, cells_length: usize) -> Reply;
+    fn harness_read_archive_alone(text: *const u8, length: usize, cells: *mut u16, cells_length: usize) -> Reply;
     fn harness_read_together(
+        module: *const u8, module_length: usize, plan: *const u8, plan_length: usize,
+        module_cells: *mut u16, module_cells_length: usize, plan_cells: *mut u16, plan_cells_length: usize) -> Reply;
+    fn harness_read_archive_together(
         module: *const u8, module_length: usize, plan: *const u8, plan_length: usize,
         module_cells: *mut u16, module_cells_length: usize, plan_cells: *mut u16, plan_cells_length: usize) -> Reply;
     fn harness_name(
         module: *const u8, module_length: usize, plan: *const u8, plan_length: usize, signal: usize, out: *mut u8, length: usize) -> Reply;
+    fn harness_archive_name(
+        module: *const u8, module_length: usize, plan: *const u8, plan_length: usize, signal: usize, out: *mut u8, length: usize) -> Reply;
     fn harness_name_alone(text: *const u8, text_length: usize, signal: usize, out: *mut u8, length: usize) -> Reply;
+    fn harness_archive_name_alone(text: *const u8, text_length: usize, signal: usize, out: *mut u8, length: usize) -> Reply;
+    fn harness_list(
+        module: *const u8, module_length: usize, plan: *const u8, plan_length: usize,
+        module_cells: *mut u16, module_cells_length: usize, plan_cells: *mut u16, plan_cells_length: usize,
+        out: *mut u8, length: usize) -> usize;
     fn harness_write(
         states: usize, initial: usize, inputs: u32, outputs: u32, cells: *const u16, cells_length: usize,
         name: *const u8, name_length: usize, names: *const Part, names_length: usize, out: *mut u8, length: usize) -> Reply;
@@ -133,23 +145,47 @@ pub fn count_ends(states: usize, cells: &[u16]) -> usize {
     unsafe { harness_count_ends(states, cells.as_ptr(), cells.len()) }
 }
 
-pub fn read_alone(text: &[u8], cells: &mut [u16]) -> Reply {
-    unsafe { harness_read_alone(text.as_ptr(), text.len(), cells.as_mut_ptr(), cells.len()) }
+pub fn read_alone(rule: Rule, text: &[u8], cells: &mut [u16]) -> Reply {
+    let read = match rule {
+        Rule::Folded => harness_read_alone,
+        Rule::Exact => harness_read_archive_alone,
+    };
+    unsafe { read(text.as_ptr(), text.len(), cells.as_mut_ptr(), cells.len()) }
 }
 
-pub fn read_together(module: &[u8], plan: &[u8], module_cells: &mut [u16], plan_cells: &mut [u16]) -> Reply {
+pub fn read_together(rule: Rule, module: &[u8], plan: &[u8], module_cells: &mut [u16], plan_cells: &mut [u16]) -> Reply {
+    let read = match rule {
+        Rule::Folded => harness_read_together,
+        Rule::Exact => harness_read_archive_together,
+    };
     let (to_m, to_p) = (module_cells, plan_cells);
     unsafe {
-        harness_read_together(
-            module.as_ptr(), module.len(), plan.as_ptr(), plan.len(), to_m.as_mut_ptr(), to_m.len(), to_p.as_mut_ptr(), to_p.len())
+        read(module.as_ptr(), module.len(), plan.as_ptr(), plan.len(), to_m.as_mut_ptr(), to_m.len(), to_p.as_mut_ptr(), to_p.len())
     }
 }
 
-pub fn name(module: &[u8], plan: Option<&[u8]>, signal: usize, out: &mut [u8]) -> Reply {
+pub fn name(rule: Rule, module: &[u8], plan: Option<&[u8]>, signal: usize, out: &mut [u8]) -> Reply {
+    let (joint, alone) = match rule {
+        Rule::Folded => (harness_name as JointName, harness_name_alone as NameAlone),
+        Rule::Exact => (harness_archive_name as JointName, harness_archive_name_alone as NameAlone),
+    };
     let (to, room) = (out.as_mut_ptr(), out.len());
     match plan {
-        Some(plan) => unsafe { harness_name(module.as_ptr(), module.len(), plan.as_ptr(), plan.len(), signal, to, room) },
-        None => unsafe { harness_name_alone(module.as_ptr(), module.len(), signal, to, room) },
+        Some(plan) => unsafe { joint(module.as_ptr(), module.len(), plan.as_ptr(), plan.len(), signal, to, room) },
+        None => unsafe { alone(module.as_ptr(), module.len(), signal, to, room) },
+    }
+}
+
+type JointName = unsafe extern "C" fn(*const u8, usize, *const u8, usize, usize, *mut u8, usize) -> Reply;
+type NameAlone = unsafe extern "C" fn(*const u8, usize, usize, *mut u8, usize) -> Reply;
+
+/// How many bytes of `out` the lister prints, or one more than `out` has where it has too few.
+pub fn list(module: &[u8], plan: &[u8], module_cells: &mut [u16], plan_cells: &mut [u16], out: &mut [u8]) -> usize {
+    let (to_m, to_p) = (module_cells, plan_cells);
+    unsafe {
+        harness_list(
+            module.as_ptr(), module.len(), plan.as_ptr(), plan.len(), to_m.as_mut_ptr(), to_m.len(), to_p.as_mut_ptr(), to_p.len(),
+            out.as_mut_ptr(), out.len())
     }
 }
 

@@ -1,18 +1,19 @@
 //! Table text: reading, lookup, writing and the program's report, the archive against the reference.
 
+use crate::compare_readings::{archive_name, archived, compare_alone, compare_names, compare_together};
 use crate::lent::Lent;
 use crate::program::{self, Buffers, Room, PROGRAM};
 use crate::random::Random;
 use crate::random_tables::{damage, module_and_plan, sizes, table_of_text_length};
-use crate::random_texts::{borrowed, good_names, text_pair};
+use crate::random_texts::{borrowed, good_names, respelled, text_pair};
 use crate::reply::Reply;
 use crate::table::{has, members, Table, NO_STEP, SIGNALS};
 use crate::tally::Tally;
-use crate::{archive, orders, places, text, writer};
+use crate::text::Rule;
+use crate::{archive, orders, places, spellings, writer};
 
 /// Room for the text of a sequencer with the six lines before it.
 const REPORT_BYTES: usize = 65_536 + 256;
-const NAME_BYTES: usize = 16;
 
 pub fn run(seed: u64, count: u64, only: Option<u64>) -> bool {
     let mut tally = Tally::default();
@@ -31,78 +32,6 @@ pub fn run(seed: u64, count: u64, only: Option<u64>) -> bool {
         ask_for_all_outcomes(&mut tally);
     }
     tally.finish()
-}
-
-fn compare_alone(tally: &mut Tally, r: &mut Random, what: &str) {
-    let (module, plan) = text_pair(r);
-    let text = if r.percent(50) { module } else { plan };
-    let mut expected = lent_cells(r, &text);
-    let mut actual = expected.clone();
-    let reply = Reply::of(text::read_alone(&text, expected.part()));
-    let answer = archive::read_alone(&text, actual.part());
-    tally.saw(&outcome("alone", &reply));
-    tally.check(reply == answer && expected == actual, || {
-        let (lent, cells, text) = (expected.len(), expected.difference(&actual), shown(&text));
-        format!("{what}: read alone, {lent} cells lent\n  {text}\n  expected {reply:?}\n  is       {answer:?}\n  cells {cells:?}")
-    });
-}
-
-fn compare_together(tally: &mut Tally, r: &mut Random, what: &str) {
-    let (module, plan) = text_pair(r);
-    let mut expected = (lent_cells(r, &module), lent_cells(r, &plan));
-    let mut actual = expected.clone();
-    let reply = Reply::of(text::read_together(&module, &plan, expected.0.part(), expected.1.part()));
-    let answer = archive::read_together(&module, &plan, actual.0.part(), actual.1.part());
-    tally.saw(&outcome("together", &reply));
-    tally.check(reply == answer && expected == actual, || {
-        let cells = [expected.0.difference(&actual.0), expected.1.difference(&actual.1)];
-        format!(
-            "{what}: read together, {} and {} cells lent\n  {}\n  {}\n  expected {reply:?}\n  is       {answer:?}\n  cells {cells:?}",
-            expected.0.len(), expected.1.len(), shown(&module), shown(&plan)
-        )
-    });
-}
-
-/// Cells to lend: mostly as many as the text's first line seems to ask for, else fewer or more.
-fn lent_cells(r: &mut Random, text: &[u8]) -> Lent<u16> {
-    let field = text.split(|&byte| byte == b'\t').nth(2).unwrap_or(b"");
-    let states: usize = std::str::from_utf8(field).ok().and_then(|digits| digits.parse().ok()).unwrap_or(0);
-    let asked = states.clamp(1, 4_097) * SIGNALS;
-    let enough = r.pick(&[asked, asked, asked + 1, asked + 77, asked.max(PROGRAM.cells)]);
-    let room = if r.percent(10) { r.pick(&[0, asked / 2, asked - SIGNALS, asked - 1]) } else { enough };
-    Lent::arbitrary(r, room)
-}
-
-/// Looks up every signal number, and some that are far too large.
-fn compare_names(tally: &mut Tally, r: &mut Random, what: &str) {
-    let (module, plan) = text_pair(r);
-    let plan = r.percent(70).then_some(plan);
-    let signals = (0..=SIGNALS).chain([64, 65_536, 1 << 32, usize::MAX]);
-    for signal in signals {
-        let mut expected: Lent<u8> = Lent::arbitrary(r, NAME_BYTES);
-        let mut actual = expected.clone();
-        let reply = look_up(&module, plan.as_deref(), signal, expected.part());
-        let answer = archive::name(&module, plan.as_deref(), signal, actual.part());
-        tally.saw(&outcome("name", &reply));
-        tally.check(reply == answer && expected == actual, || {
-            let plan = plan.as_deref().map(shown);
-            format!("{what}: name of {signal}\n  {}\n  {plan:?}\n  expected {reply:?}\n  is       {answer:?}", shown(&module))
-        });
-        // Where the reading is refused, every lookup says the same.
-        if reply.number != 0 && reply.number != 12 {
-            break;
-        }
-    }
-}
-
-fn look_up(module: &[u8], plan: Option<&[u8]>, signal: usize, out: &mut [u8]) -> Reply {
-    match text::name(module, plan, signal) {
-        Ok(name) => {
-            out[..name.len()].copy_from_slice(&name);
-            Reply { value: name.len(), ..Reply::default() }
-        }
-        Err(number) => Reply { number, ..Reply::default() },
-    }
 }
 
 /// The outcome of a second writing where the name of an undeclared signal is another, or missing.
@@ -140,6 +69,9 @@ fn compare_writing(tally: &mut Tally, r: &mut Random, what: &str) {
     if let Some(cell) = reply.bad_cell() {
         places::record(tally, &seen, cell, table);
     }
+    if !reply.placed {
+        record_names(tally, &writing, &seen, length > room);
+    }
     orders::record(tally, "write", &expected.part()[..reply.value]);
     tally.check(reply == answer && expected == actual, || {
         let (writing, bytes) = (writing.shown(), expected.difference(&actual));
@@ -149,6 +81,29 @@ fn compare_writing(tally: &mut Tally, r: &mut Random, what: &str) {
         let text = &actual.part()[..answer.value.min(room)];
         tally.check(reads_again(table, &names, text), || format!("{what}: written and read again\n  {table:?}\n  {}", shown(text)));
         write_again(tally, r, what, &writing, &answer, text);
+    }
+}
+
+const ALIKE: &str = "declared signals' names alike";
+const TOO_LONG: &str = "declared signals' names alike, and too little room";
+const UNDECLARED: &str = "an undeclared signal's name alike to a declared one's";
+const TABLE_NAME: &str = "the table's name alike to a signal's";
+
+/// Counts names that the writer must not compare, or whose comparison has its place in the order: a wrong rule would show in them.
+fn record_names(tally: &mut Tally, Writing { table, name, names }: &Writing, seen: &str, is_too_long: bool) {
+    let alike = |one: &[u8], other: &[u8]| one != other && one.eq_ignore_ascii_case(other);
+    let (declared, others): (Vec<usize>, Vec<usize>) = (0..names.len()).partition(|&signal| has(table.signals(), signal));
+    let of = |signals: &[usize]| -> Vec<&[u8]> { signals.iter().map(|&signal| names[signal].as_slice()).collect() };
+    let (declared, others) = (of(&declared), of(&others));
+    let are_alike = writer::any_two(&declared, alike);
+    let met = [
+        (ALIKE, are_alike),
+        (TOO_LONG, are_alike && is_too_long),
+        (UNDECLARED, others.iter().any(|other| declared.iter().any(|one| alike(one, other)))),
+        (TABLE_NAME, declared.iter().any(|one| alike(one, name))),
+    ];
+    for (what, _) in met.iter().filter(|(_, is_met)| *is_met) {
+        tally.saw(&format!("{seen}, {what}"));
     }
 }
 
@@ -172,14 +127,16 @@ fn write_again(tally: &mut Tally, r: &mut Random, what: &str, first: &Writing, a
     });
 }
 
-/// Each undeclared signal gets a new name, good or bad or a declared signal's; the names may end after the last declared signal, or have all 32.
+/// Each undeclared signal gets a new name: a good one, often a declared signal's, in some spelling, or a bad one. The names may end after the last
+/// declared signal, or have all 32.
 fn rename_undeclared(r: &mut Random, Writing { table, name, names }: &Writing) -> Writing {
     let mut renamed = names.clone();
     for signal in (0..names.len()).filter(|&signal| !has(table.signals(), signal)) {
-        if r.percent(50) {
-            renamed[signal] = r.pick(names);
-        } else {
-            damage_name(r, &mut renamed[signal]);
+        let name = r.pick(names);
+        match r.below(3) {
+            0 => renamed[signal] = name,
+            1 => renamed[signal] = respelled(r, &name),
+            _ => damage_name(r, &mut renamed[signal]),
         }
     }
     let needed = members(table.signals()).last().map_or(0, |highest| highest + 1);
@@ -202,8 +159,10 @@ fn random_writing(r: &mut Random) -> Writing {
     }
     let mut names = good_names(r);
     let mut name = r.pick(&names);
-    if r.percent(20) {
-        damage_name(r, &mut name);
+    match r.below(5) {
+        0 => damage_name(r, &mut name),
+        1 => name = respelled(r, &name),
+        _ => (),
     }
     for _ in 0..r.pick(&[0, 0, 1, 3]) {
         damage_names(r, &mut names, table.signals());
@@ -217,7 +176,7 @@ fn damage_name(r: &mut Random, name: &mut Vec<u8>) {
     *name = r.pick(NAMES).as_bytes().to_vec();
 }
 
-/// One name is bad, or equal to another, or the names end early; mostly it is the name of a declared signal.
+/// One name is bad, or equal or alike to another, or the names end early; mostly it is the name of a declared signal.
 fn damage_names(r: &mut Random, names: &mut Vec<Vec<u8>>, declared: u32) {
     let mut places: Vec<usize> = members(declared).filter(|&signal| signal < names.len()).collect();
     if places.is_empty() || r.percent(20) {
@@ -227,9 +186,10 @@ fn damage_names(r: &mut Random, names: &mut Vec<Vec<u8>>, declared: u32) {
         return;
     }
     let (one, other) = (r.pick(&places), r.pick(&places));
-    match r.below(8) {
+    match r.below(10) {
         0..=1 => damage_name(r, &mut names[one]),
-        2..=6 => names[one] = names[other].clone(),
+        2..=4 => names[one] = names[other].clone(),
+        5..=8 => names[one] = respelled(r, &names[other]),
         _ => names.truncate(one),
     }
 }
@@ -237,7 +197,7 @@ fn damage_names(r: &mut Random, names: &mut Vec<Vec<u8>>, declared: u32) {
 /// Whether the archive reads the text as the same table: states, first state, lists and steps, name for name.
 fn reads_again(table: &Table, names: &[&[u8]], text: &[u8]) -> bool {
     let mut cells = vec![0; table.cells.len() + 5];
-    let reply = archive::read_alone(text, &mut cells);
+    let reply = archive::read_alone(Rule::Folded, text, &mut cells);
     let beyond = cells.split_off(table.cells.len());
     let again = Table { states: reply.states, initial: reply.initial, inputs: reply.inputs, outputs: reply.outputs, cells };
     let same_numbers = reply.number == 0 && again.states == table.states && again.initial == table.initial;
@@ -252,13 +212,6 @@ fn reads_again(table: &Table, names: &[&[u8]], text: &[u8]) -> bool {
         })
     };
     same_numbers && same_count && members(table.signals()).all(same_signal) && beyond.iter().all(|&cell| cell == NO_STEP)
-}
-
-fn archive_name(text: &[u8], signal: usize) -> Vec<u8> {
-    let mut name = vec![0; NAME_BYTES];
-    let reply = archive::name(text, None, signal, &mut name);
-    name.truncate(reply.value);
-    name
 }
 
 fn compare_report(tally: &mut Tally, r: &mut Random, what: &str) {
@@ -311,7 +264,7 @@ pub fn shown(text: &[u8]) -> String {
     format!("{} bytes \"{}\"", text.len(), cut.escape_ascii())
 }
 
-fn outcome(call: &str, reply: &Reply) -> String {
+pub fn outcome(call: &str, reply: &Reply) -> String {
     match reply.number {
         0 => format!("{call}: accepted"),
         number => format!("{call}: refused {number:2} of {}", reply.table),
@@ -319,26 +272,23 @@ fn outcome(call: &str, reply: &Reply) -> String {
 }
 
 fn ask_for_all_outcomes(tally: &mut Tally) {
-    let of_reading = [1, 2, 10, 13, 14, 15, 16, 17, 18, 19, 20, 21, 22];
-    for number in of_reading {
-        tally.must_have_seen(&format!("alone: refused {number:2} of 1"));
-        for text in [1, 2] {
-            tally.must_have_seen(&format!("together: refused {number:2} of {text}"));
-            tally.must_have_seen(&format!("report: refused {number:2} of {text}"));
-        }
-        if number != 10 {
-            tally.must_have_seen(&format!("name: refused {number:2} of 0"));
-        }
-    }
+    ask_for_refusals_of_readings(tally);
     for number in 1..=6 {
         let refusal = format!("write: refused {number:2} of 1");
         tally.must_have_seen(&refusal);
         places::ask(tally, &refusal, number, false);
     }
-    for outcome in ["name: refused 12 of 0", "write: refused 16 of 0", "write: refused 18 of 0", "write: refused 23 of 0"] {
-        tally.must_have_seen(outcome);
+    for number in [16, 18, 28, 23] {
+        tally.must_have_seen(&format!("write: refused {number:2} of 0"));
     }
-    for outcome in ["alone: accepted", "together: accepted", "name: accepted", "write: accepted", "report: verdict yes", "report: verdict none"] {
+    for number in [16, 18] {
+        tally.must_have_seen(&format!("write: refused {number} of 0, {ALIKE}"));
+    }
+    tally.must_have_seen(&format!("write: refused 28 of 0, {TOO_LONG}"));
+    for names in [UNDECLARED, TABLE_NAME] {
+        tally.must_have_seen(&format!("write: accepted, {names}"));
+    }
+    for outcome in ["write: accepted", "report: verdict yes", "report: verdict none"] {
         tally.must_have_seen(outcome);
     }
     for number in [8, 9, 10, 23] {
@@ -346,5 +296,36 @@ fn ask_for_all_outcomes(tally: &mut Tally) {
     }
     for call in ["write", RENAMED, "report"] {
         orders::ask(tally, call);
+    }
+    spellings::ask(tally);
+}
+
+/// The calls of the archive reading keep document 01's rule, so they have no 28.
+fn ask_for_refusals_of_readings(tally: &mut Tally) {
+    let by_exact = [1, 2, 10, 13, 14, 15, 16, 17, 18, 19, 20, 21, 22];
+    for number in by_exact {
+        ask_for_refusal(tally, number, [&archived("alone"), &archived("together"), &archived("name"), "list"]);
+    }
+    for number in by_exact.into_iter().chain([28]) {
+        ask_for_refusal(tally, number, ["alone", "together", "name", "report"]);
+    }
+    for call in ["alone", "together", "name"] {
+        tally.must_have_seen(&format!("{call}: accepted"));
+        tally.must_have_seen(&format!("{}: accepted", archived(call)));
+    }
+    for call in ["name", &archived("name")] {
+        tally.must_have_seen(&format!("{call}: refused 12 of 0"));
+    }
+}
+
+/// A refusal of a reading is met of a text alone, of either of two texts, in the lookup, which has no 10, and in what is printed for two texts.
+fn ask_for_refusal(tally: &mut Tally, number: u32, [alone, together, name, printed]: [&str; 4]) {
+    tally.must_have_seen(&format!("{alone}: refused {number:2} of 1"));
+    for call in [together, printed] {
+        tally.must_have_seen(&format!("{call}: refused {number:2} of 1"));
+        tally.must_have_seen(&format!("{call}: refused {number:2} of 2"));
+    }
+    if number != 10 {
+        tally.must_have_seen(&format!("{name}: refused {number:2} of 0"));
     }
 }

@@ -12,7 +12,9 @@ impl<T: Copy + PartialEq + TryFrom<usize> + std::fmt::Debug> Lent<T> {
     pub fn arbitrary(r: &mut Random, length: usize) -> Lent<T> {
         let bound = r.pick(&[2, 5, 256]);
         let (shift, spacing) = (r.below(bound), r.between(1, 7));
-        Lent((0..length + 2 * GUARD).filter_map(|place| T::try_from((place * spacing + shift) % bound).ok()).collect())
+        // The contents begin anew after `bound` places: to work out one period alone saves most of the time that a large buffer takes.
+        let period: Vec<T> = (0..bound).filter_map(|place| T::try_from((place * spacing + shift) % bound).ok()).collect();
+        Lent(period.iter().copied().cycle().take(length + 2 * GUARD).collect())
     }
 
     pub fn part(&mut self) -> &mut [T] {

@@ -1,30 +1,32 @@
-//! An independent implementation of document 01 and of S-2 and S-3 of document 02, written from their words and by the plainest means, and
-//! comparisons of the archives and the program with it. The rules are in `table` to `synth`, the calls with their refusals in `calls`, `text`,
-//! `writer` and `program`; what is tried comes from `random_tables` and `random_texts`, and `places` says which bad cells have to be among it,
-//! `orders` which steps of one state; the archives stand behind `archive`.
+//! An independent implementation of document 01 and of S-2, S-3 and S-9 of document 02, written from their words and by the plainest means, and
+//! comparisons of the archives and the programs with it. The rules are in `table` to `synth`, the calls with their refusals in `calls`, `text`,
+//! `writer`, `program` and `lister`; what is tried comes from `random_tables` and `random_texts`, and `places` says which bad cells have to be among
+//! it, `orders` which steps of one state, `spellings` which names; the archives stand behind `archive`.
 //!
 //! Where document 01 is silent the reference follows docs/DECISIONS.md or the library, and says nothing on its own: the table that a refusal of a call
 //! on one table and of the writer names; a missing entry of the writer's names; what counts as a step in cells that no check has seen; how
 //! `count_ends` takes cells that are no whole rows; 10 where `report` is lent less than the program lends; that a report which is refused after the
-//! reading leaves its tables as a refused reading does.
+//! reading leaves its tables as a refused reading does; what `list` returns where it is lent too few bytes.
 //!
-//!     reference selftest CASES                               the reference alone, on folders of expected output
-//!     reference tables SEED COUNT [CASE]                     the calls on tables
-//!     reference texts SEED COUNT [CASE]                      reading, lookup, writing, report
-//!     reference demand3 SEED COUNT [CASE]                    all small sequencers
-//!     reference substitution SEED COUNT [CASE]               a part in the place of the one that it refines: the archive alone
-//!     reference program SEED COUNT FOLDER SEQUENCER [CASE]   the program, run in a scratch folder
+//!     reference selftest CASES CLASHES                               the reference alone, on folders of expected output
+//!     reference tables SEED COUNT [CASE]                             the calls on tables
+//!     reference texts SEED COUNT [CASE]                              reading, lookup, listing of clashes, writing, report
+//!     reference demand3 SEED COUNT [CASE]                            all small sequencers
+//!     reference substitution SEED COUNT [CASE]                       a part in the place of the one that it refines: the archive alone
+//!     reference program SEED COUNT FOLDER SEQUENCER CLASHES [CASE]   the two programs, run in a scratch folder
 //!
 //! With CASE that one case is run alone. The last line is 'N passed, M failed', and the exit status says the same.
 
 mod archive;
 mod bytes;
 mod calls;
+mod compare_readings;
 mod compare_tables;
 mod compare_texts;
 mod demand3;
 mod fit;
 mod lent;
+mod lister;
 mod orders;
 mod places;
 mod product;
@@ -36,6 +38,7 @@ mod refine;
 mod reply;
 mod run_program;
 mod selftest;
+mod spellings;
 mod substitution;
 mod synth;
 mod table;
@@ -53,7 +56,9 @@ fn main() -> ExitCode {
         Some(true) => ExitCode::SUCCESS,
         Some(false) => ExitCode::FAILURE,
         None => {
-            eprintln!("usage: reference selftest CASES | tables|texts|demand3|substitution SEED COUNT [CASE] | program SEED COUNT FOLDER SEQUENCER [CASE]");
+            eprintln!("usage: reference selftest CASES CLASHES");
+            eprintln!("       reference tables|texts|demand3|substitution SEED COUNT [CASE]");
+            eprintln!("       reference program SEED COUNT FOLDER SEQUENCER CLASHES [CASE]");
             ExitCode::from(2)
         }
     }
@@ -61,8 +66,8 @@ fn main() -> ExitCode {
 
 /// Whether all passed; nothing for arguments that make no sense.
 fn run(arguments: &[&str]) -> Option<bool> {
-    if let ["selftest", cases] = arguments {
-        return Some(selftest::run(Path::new(cases)));
+    if let ["selftest", cases, clashes] = arguments {
+        return Some(selftest::run(Path::new(cases), Path::new(clashes)));
     }
     let [what, seed, count, rest @ ..] = arguments else { return None };
     let (seed, count): (u64, u64) = (seed.parse().ok()?, count.parse().ok()?);
@@ -72,7 +77,10 @@ fn run(arguments: &[&str]) -> Option<bool> {
         ("texts", case) => Some(compare_texts::run(seed, count, one(case)?)),
         ("demand3", case) => Some(demand3::run(seed, count, one(case)?)),
         ("substitution", case) => Some(substitution::run(seed, count, one(case)?)),
-        ("program", [folder, sequencer, case @ ..]) => Some(run_program::run(seed, count, one(case)?, Path::new(folder), Path::new(sequencer))),
+        ("program", [folder, sequencer, clashes, case @ ..]) => {
+            let programs = [Path::new(sequencer), Path::new(clashes)];
+            Some(run_program::run(seed, count, one(case)?, Path::new(folder), programs))
+        }
         _ => None,
     }
 }

@@ -5,7 +5,7 @@ use crate::lent::Lent;
 use crate::random::Random;
 use crate::reply::Reply;
 use crate::table::{Table, SIGNALS};
-use crate::text::{fill, read_both, MODULE, PLAN};
+use crate::text::{fill, read_both, Rule, MODULE, PLAN};
 use crate::writer::{digits, line, write};
 
 const TEXT_BYTES: usize = 65_536;
@@ -68,8 +68,8 @@ struct Made {
 }
 
 /// A file that can't be read is `None`.
-pub fn print(module: Option<&[u8]>, plan: Option<&[u8]>, room: &Room) -> Vec<u8> {
-    make(module, plan, room).map_or_else(|refusal| refusal_line(&refusal), |made| made.printed)
+pub fn print(module: Option<&[u8]>, plan: Option<&[u8]>) -> Vec<u8> {
+    make(module, plan, &PROGRAM).map_or_else(|refusal| refusal_line(&refusal), |made| made.printed)
 }
 
 /// What is printed for two texts. The tables read and the result are left in the buffers; a refusal, of the reading or after it, leaves both
@@ -88,10 +88,16 @@ pub fn report(module: &[u8], plan: &[u8], lent: &mut Buffers) -> Vec<u8> {
     }
 }
 
-fn make(module: Option<&[u8]>, plan: Option<&[u8]>, room: &Room) -> Result<Made, Reply> {
+/// The texts of the two files, or 24 for the first that can't be read.
+pub fn texts<'t>(module: Option<&'t [u8]>, plan: Option<&'t [u8]>) -> Result<(&'t [u8], &'t [u8]), Reply> {
     let Some(module) = module else { return Reply::refused(24, MODULE) };
     let Some(plan) = plan else { return Reply::refused(24, PLAN) };
-    let (module, plan, numbering) = read_both(module, plan, room.module_cells, room.plan_cells)?;
+    Ok((module, plan))
+}
+
+fn make(module: Option<&[u8]>, plan: Option<&[u8]>, room: &Room) -> Result<Made, Reply> {
+    let (module, plan) = texts(module, plan)?;
+    let (module, plan, signals) = read_both(Rule::Folded, module, plan, room.module_cells, room.plan_cells)?;
 
     // The buffers are cut to the pairs, as many as there is room for: so of 8, 9 and 10 for pairs the first that applies is given.
     let pairs = module.states * plan.states;
@@ -99,7 +105,7 @@ fn make(module: Option<&[u8]>, plan: Option<&[u8]>, room: &Room) -> Result<Made,
     let mut flags = vec![0; room.flags.min(pairs.min(MOST_PAIRS))];
     let reply = synthesize(&module, &plan, &mut cells, &mut flags)?;
 
-    let names: Vec<&[u8]> = numbering.0.iter().map(Vec::as_slice).collect();
+    let names: Vec<&[u8]> = signals.iter().map(|signal| signal.name.as_slice()).collect();
     let table = Table { states: pairs, initial: reply.initial, inputs: reply.inputs, outputs: reply.outputs, cells };
     let mut text = vec![0; TEXT_BYTES];
     let length = if reply.yes { write(&table, b"sequencer", &names, &mut text)?.value } else { 0 };
@@ -126,6 +132,6 @@ fn summary(reply: &Reply, table: &Table, flags: &[u8]) -> Vec<u8> {
     lines
 }
 
-fn refusal_line(refusal: &Reply) -> Vec<u8> {
+pub fn refusal_line(refusal: &Reply) -> Vec<u8> {
     line(&[b"refused", &digits(refusal.table as usize), &digits(refusal.number as usize), &digits(refusal.line)])
 }

@@ -5,16 +5,54 @@ use crate::random_tables::{busy_module_and_plan, module_and_plan, sizes, table_o
 use crate::table::{members, Table, SIGNALS};
 use crate::writer::{declaration_line, digits, line, step_line, text_of};
 
-/// Names for the 32 signals of a case, all different, some of them nearly the same.
+/// Names for the 32 signals of a case. No two are the same, in any case of their letters, though some nearly are: in a byte at their end, in a prefix,
+/// or, as `0` and `p`, in the low five bits of a byte.
 pub fn good_names(r: &mut Random) -> Vec<Vec<u8>> {
     const ODD: &[&str] =
-        &["a", "A", "b", "_", "__", "0", "00", "power", "Power", "poweR", "power_", "settled", "read", "start", "in", "out", "step", "table"];
-    let mut names: Vec<Vec<u8>> = ODD.iter().map(|name| name.as_bytes().to_vec()).collect();
-    names.extend([b"abcdefghijklmnop".to_vec(), b"abcdefghijklmnoq".to_vec(), b"ABCDEFGHIJKLMNO9".to_vec()]);
-    names.extend((0..20).map(|number| format!("s{number}").into_bytes()));
+        &["a", "b", "p", "_", "__", "0", "00", "power", "power_", "poweri", "settled", "read", "start", "in", "out", "step", "table", "sp", "z"];
+    const LONG: &[&str] = &["abcdefghijklmnop", "abcdefghijklmnoq", "ABCDEFGHIJKLMNO9", "reference_2_warm", "qrstuvwxyz"];
+    let mut names: Vec<Vec<u8>> = [ODD, LONG].concat().iter().map(|name| name.as_bytes().to_vec()).collect();
+    names.extend((0..17).map(|number| format!("s{number}").into_bytes()));
+    let chance = r.pick(&[0, 20, 60]);
+    for name in &mut names {
+        if r.percent(chance) {
+            *name = respelled(r, name);
+        }
+    }
     r.shuffle(&mut names);
     names.truncate(SIGNALS);
     names
+}
+
+/// Another spelling of a name: the case of one of its letters, or of several, is another. A name without letters has no other.
+pub fn respelled(r: &mut Random, name: &[u8]) -> Vec<u8> {
+    const CASE: u8 = b'a' ^ b'A';
+    let letters: Vec<usize> = (0..name.len()).filter(|&place| name[place].is_ascii_alphabetic()).collect();
+    let mut spelling = name.to_vec();
+    let Some(&last) = letters.last() else { return spelling };
+    let one = if r.percent(30) { last } else { r.pick(&letters) };
+    let chance = r.pick(&[0, 0, 50, 100]);
+    for place in letters {
+        if place == one || r.percent(chance) {
+            spelling[place] ^= CASE;
+        }
+    }
+    spelling
+}
+
+/// Up to three of these signals get names that are other spellings of a further one's.
+fn respell_together(r: &mut Random, names: &mut [Vec<u8>], signals: u32) {
+    let signals: Vec<usize> = members(signals).collect();
+    if signals.is_empty() {
+        return;
+    }
+    let model = r.pick(&signals);
+    for _ in 0..r.between(1, 3) {
+        let (signal, spelling) = (r.pick(&signals), respelled(r, &names[model]));
+        if signal != model && !names.contains(&spelling) {
+            names[signal] = spelling;
+        }
+    }
 }
 
 pub fn borrowed(names: &[Vec<u8>]) -> Vec<&[u8]> {
@@ -23,11 +61,21 @@ pub fn borrowed(names: &[Vec<u8>]) -> Vec<&[u8]> {
 
 /// A module's and a plan's text, most of them related and sound.
 pub fn text_pair(r: &mut Random) -> (Vec<u8>, Vec<u8>) {
-    let names = good_names(r);
     let (module, plan) = random_pair(r);
-    let mut texts = (spelled(r, &module, &names), spelled(r, &plan, &names));
+    let mut names = good_names(r);
+    for _ in 0..r.pick(&[0, 0, 0, 0, 0, 1, 2]) {
+        respell_together(r, &mut names, module.signals() | plan.signals());
+    }
+    let mut texts = (spelled(r, &module, &names), Vec::new());
+    if let Some(signal) = members(module.signals()).find(|_| r.percent(3)) {
+        names[signal] = respelled(r, &names[signal]);
+    }
+    texts.1 = spelled(r, &plan, &names);
     if r.percent(2) {
         texts.0 = text_of_length(65_536);
+    }
+    if r.percent(3) {
+        crowd(r, &mut texts.0, &mut texts.1);
     }
     let damages = r.pick(&[0, 0, 1, 1, 1, 2, 3]);
     for _ in 0..damages {
@@ -38,7 +86,7 @@ pub fn text_pair(r: &mut Random) -> (Vec<u8>, Vec<u8>) {
 }
 
 fn random_pair(r: &mut Random) -> (Table, Table) {
-    if r.percent(1) {
+    if r.percent(2) {
         return busy_module_and_plan(r);
     }
     let sizes = sizes(r);
@@ -62,13 +110,17 @@ fn spelled(r: &mut Random, table: &Table, names: &[Vec<u8>]) -> Vec<u8> {
     }
     r.shuffle(&mut declarations);
     r.shuffle(&mut steps);
-    let first = line(&[b"table", r.pick(&names), &digits(table.states), &digits(table.initial)]);
+    let mut name = r.pick(&names).to_vec();
+    if r.percent(50) {
+        name = respelled(r, &name);
+    }
+    let first = line(&[b"table", &name, &digits(table.states), &digits(table.initial)]);
     [first, declarations.concat(), steps.concat()].concat()
 }
 
 /// Damages a text in one of the ways that a refusal names, or at random.
 fn damage(r: &mut Random, text: &mut Vec<u8>) {
-    match r.below(21) {
+    match r.below(25) {
         0..=2 => damage_byte(r, text),
         3..=6 => damage_lines(r, text),
         7 => damage_states(r, text),
@@ -79,6 +131,8 @@ fn damage(r: &mut Random, text: &mut Vec<u8>) {
         16..=17 => declare_more(r, text),
         18 => text.truncate(r.below(text.len() + 1) * r.below(2)),
         19 => lengthen(r, text),
+        20..=21 => respell_line(r, text),
+        22..=23 => declare_again(r, text),
         _ => *text = nonsense(r),
     }
 }
@@ -188,15 +242,67 @@ fn return_carriages(r: &mut Random, text: &mut Vec<u8>) {
 /// Further declarations behind the first line, up to the last that is taken or one more.
 fn declare_more(r: &mut Random, text: &mut Vec<u8>) {
     let mut lines = split(text);
-    let declared = lines.iter().filter(|line| line.starts_with(b"in\t") || line.starts_with(b"out\t")).count();
-    let full = SIGNALS.saturating_sub(declared);
+    let full = SIGNALS.saturating_sub(lines.iter().filter(|line| declared(line).is_some()).count());
     let more = r.pick(&[1, full, full, full + 1, full + 1]);
     let place = lines.len().min(1);
     for number in 0..more {
-        let name = format!("n{number}");
-        lines.insert(place, line(&[r.pick(&[&b"in"[..], b"out"]), name.as_bytes()]));
+        lines.insert(place, declaration(r, format!("n{number}").as_bytes()));
+    }
+    if r.percent(30) {
+        let name = respelled_name(r, &lines);
+        let end = lines.iter().rposition(|line| declared(line).is_some()).map_or(0, |last| last + 1);
+        lines.insert(end, declaration(r, &name));
     }
     *text = lines.concat();
+}
+
+fn declaration(r: &mut Random, name: &[u8]) -> Vec<u8> {
+    line(&[r.pick(&[&b"in"[..], b"out"]), name])
+}
+
+/// The name that a line declares, if it does.
+pub fn declared(line: &[u8]) -> Option<&[u8]> {
+    line.strip_prefix(b"in\t").or(line.strip_prefix(b"out\t"))?.strip_suffix(b"\n")
+}
+
+/// Another spelling of a name that the lines declare, or of `a` where they declare none.
+fn respelled_name(r: &mut Random, lines: &[Vec<u8>]) -> Vec<u8> {
+    let names: Vec<&[u8]> = lines.iter().filter_map(|line| declared(line)).collect();
+    let name: &[u8] = if names.is_empty() { b"a" } else { r.pick(&names) };
+    respelled(r, name)
+}
+
+/// A name that is declared is declared once more, in another spelling, before or after its first declaration or even among the steps.
+fn declare_again(r: &mut Random, text: &mut Vec<u8>) {
+    let mut lines = split(text);
+    let name = respelled_name(r, &lines);
+    let declarations = lines.iter().filter(|line| declared(line).is_some()).count();
+    let place = r.between(1, declarations + 2).min(lines.len());
+    lines.insert(place, declaration(r, &name));
+    *text = lines.concat();
+}
+
+/// The name in one line gets another spelling: a declaration's, so that its steps are left behind, or a step's, or the table's.
+fn respell_line(r: &mut Random, text: &mut Vec<u8>) {
+    edit_fields(r, text, |r, fields| {
+        if let Some(name) = fields.iter_mut().skip(1).rfind(|field| field.iter().any(u8::is_ascii_alphabetic)) {
+            *name = respelled(r, name);
+        }
+    });
+}
+
+/// The module gets as many declarations as there may be, and the plan begins with another spelling of one of these names: it would be a 33rd name.
+fn crowd(r: &mut Random, module: &mut Vec<u8>, plan: &mut Vec<u8>) {
+    let mut lines = split(module);
+    let missing = SIGNALS.saturating_sub(lines.iter().filter(|line| declared(line).is_some()).count());
+    for number in 0..missing {
+        lines.insert(1, declaration(r, format!("n{number}").as_bytes()));
+    }
+    let name = respelled_name(r, &lines);
+    *module = lines.concat();
+    let mut lines = split(plan);
+    lines.insert(1, declaration(r, &name));
+    *plan = lines.concat();
 }
 
 /// The text grows to its limit, or one byte beyond it, by repeating its end.

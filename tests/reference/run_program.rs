@@ -1,10 +1,10 @@
-//! The program itself, run in a scratch folder on files, against what the reference prints.
+//! The two programs themselves, run in a scratch folder on files, against what the reference prints.
 
 use crate::compare_texts::{headline, shown};
 use crate::random::Random;
 use crate::random_texts::{text_of_length, text_pair};
 use crate::tally::Tally;
-use crate::{orders, program};
+use crate::{lister, orders, program, spellings};
 use std::fs;
 use std::path::{Path, PathBuf};
 use std::process::{Command, Stdio};
@@ -49,46 +49,89 @@ fn clear(path: &Path) -> std::io::Result<()> {
     }
 }
 
-/// The folder is made if it is not there, and the two files in it are removed at the end.
-pub fn run(seed: u64, count: u64, only: Option<u64>, folder: &Path, program: &Path) -> bool {
+/// What a program is to print for its two files.
+type Print = fn(Option<&[u8]>, Option<&[u8]>) -> Vec<u8>;
+
+/// A program, how its outcomes are named here, and what it is to print.
+struct Program {
+    path: PathBuf,
+    name: &'static str,
+    print: Print,
+}
+
+const MAIN: &str = "program";
+const LISTER: &str = "clashes";
+
+/// `programs` are the main program and the lister. The folder is made if it is not there, and the two files in it are removed at the end.
+pub fn run(seed: u64, count: u64, only: Option<u64>, folder: &Path, programs: [&Path; 2]) -> bool {
     let mut tally = Tally::default();
-    let Ok(program) = prepare(folder, program) else {
-        tally.check(false, || format!("program: no folder {} or no program {}", folder.display(), program.display()));
+    let Ok(programs) = prepare(folder, programs) else {
+        tally.check(false, || format!("program: no folder {} or no program among {programs:?}", folder.display()));
         return tally.finish();
     };
     for case in only.map_or(0..count, |case| case..case + 1) {
-        let (module, plan) = random_files(&mut Random::of_case(seed, case), case);
-        compare(&mut tally, &format!("program, seed {seed}, case {case}"), &module, &plan, folder, &program);
+        let files = random_files(&mut Random::of_case(seed, case), case);
+        compare(&mut tally, &format!("seed {seed}, case {case}"), &files, folder, &programs);
     }
     for name in ["module.tab", "plan.tab"] {
         let removed = clear(&folder.join(name));
         tally.check(removed.is_ok(), || format!("program: {name} cannot be removed"));
     }
     if only.is_none() && count >= 200 {
-        for outcome in ["verdict yes", "verdict none", "refused 24 of 1", "refused 24 of 2", "refused 13 of 1", "refused 13 of 2"] {
-            tally.must_have_seen(outcome);
-        }
-        orders::ask(&mut tally, "program");
+        ask_for_all_outcomes(&mut tally);
     }
     tally.finish()
 }
 
-fn prepare(folder: &Path, program: &Path) -> std::io::Result<PathBuf> {
+fn prepare(folder: &Path, [main, lister]: [&Path; 2]) -> std::io::Result<[Program; 2]> {
     fs::create_dir_all(folder)?;
-    program.canonicalize()
+    Ok([
+        Program { path: main.canonicalize()?, name: MAIN, print: program::print },
+        Program { path: lister.canonicalize()?, name: LISTER, print: lister::print },
+    ])
 }
 
-fn compare(tally: &mut Tally, what: &str, module: &Content, plan: &Content, folder: &Path, program: &Path) {
-    let expected = program::print(module.bytes(), plan.bytes(), &program::PROGRAM);
-    tally.saw(&headline(&expected));
-    orders::record(tally, "program", &expected);
+/// Places the two files, and runs each program on them.
+fn compare(tally: &mut Tally, what: &str, (module, plan): &(Content, Content), folder: &Path, programs: &[Program; 2]) {
     let placed = module.place(&folder.join("module.tab")).and_then(|()| plan.place(&folder.join("plan.tab")));
-    let run = placed.and_then(|()| Command::new(program).current_dir(folder).stdin(Stdio::null()).output());
-    let right = |run: &std::process::Output| run.status.code() == Some(0) && run.stderr.is_empty() && run.stdout == expected;
-    tally.check(run.as_ref().is_ok_and(right), || {
-        let said = run.map_or_else(|error| error.to_string(), |run| format!("{}, {}, {}", run.status, shown(&run.stdout), shown(&run.stderr)));
-        format!("{what}\n  {}\n  {}\n  expected {}\n  is       {said}", module.shown(), plan.shown(), shown(&expected))
-    });
+    tally.check(placed.is_ok(), || format!("{what}: the files cannot be written"));
+    for Program { path, name, print } in programs {
+        let expected = print(module.bytes(), plan.bytes());
+        tally.saw(&format!("{name}: {}", said(&expected)));
+        orders::record(tally, name, &expected);
+        let run = Command::new(path).current_dir(folder).stdin(Stdio::null()).output();
+        let right = |run: &std::process::Output| run.status.code() == Some(0) && run.stderr.is_empty() && run.stdout == expected;
+        tally.check(run.as_ref().is_ok_and(right), || {
+            let said = run.map_or_else(|error| error.to_string(), |run| format!("{}, {}, {}", run.status, shown(&run.stdout), shown(&run.stderr)));
+            format!("{name}, {what}\n  {}\n  {}\n  expected {}\n  is       {said}", module.shown(), plan.shown(), shown(&expected))
+        });
+    }
+}
+
+/// What is printed, for the count of outcomes: of clashes how many lines there are, else a verdict or a refusal.
+fn said(printed: &[u8]) -> String {
+    match spellings::rows(printed).map(|rows| rows.len()) {
+        Some(0) => "no clash".to_string(),
+        Some(1) => "one clash".to_string(),
+        Some(_) => "several clashes".to_string(),
+        None => headline(printed),
+    }
+}
+
+fn ask_for_all_outcomes(tally: &mut Tally) {
+    for name in [MAIN, LISTER] {
+        for number in [10, 13, 22, 24] {
+            tally.must_have_seen(&format!("{name}: refused {number} of 1"));
+            tally.must_have_seen(&format!("{name}: refused {number} of 2"));
+        }
+    }
+    for outcome in ["verdict yes", "verdict none", "refused  8 of 0", "refused  9 of 0", "refused 10 of 0", "refused 28 of 1", "refused 28 of 2"] {
+        tally.must_have_seen(&format!("{MAIN}: {outcome}"));
+    }
+    for outcome in ["no clash", "one clash", "several clashes"] {
+        tally.must_have_seen(&format!("{LISTER}: {outcome}"));
+    }
+    orders::ask(tally, MAIN);
 }
 
 /// The first cases are files that can't be read and files at the limit, in both places; the rest are random.
@@ -109,6 +152,15 @@ fn random_files(r: &mut Random, case: u64) -> (Content, Content) {
         10 => (Bytes(b"table\tone\t1\t0\n".to_vec()), Bytes(text_of_length(65_537))),
         11 => (Bytes(Vec::new()), plan),
         12 => (module, Bytes(Vec::new())),
+        13 => (of_states(1_025), plan),
+        14 => (of_states(1_024), of_states(1_025)),
+        15 => (of_states(1_024), of_states(1_024)),
+        16 => (of_states(41), of_states(25)),
         _ => (module, plan),
     }
+}
+
+/// A text without signals, of so many states: 1,024 are read by either program, and 1,025 are more than there are cells for.
+fn of_states(states: usize) -> Content {
+    Bytes(format!("table\tt\t{states}\t0\n").into_bytes())
 }

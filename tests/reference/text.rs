@@ -7,14 +7,45 @@ pub const MOST_BYTES: usize = 65_536;
 pub const MODULE: u32 = 1;
 pub const PLAN: u32 = 2;
 
-/// The names of the signals by number, as first declared over all texts of one reading.
-#[derive(Default)]
-pub struct Numbering(pub Vec<Vec<u8>>);
+/// How names that differ only in the case of ASCII letters are taken (02, S-9).
+#[derive(Clone, Copy, Debug, PartialEq, Eq)]
+pub enum Rule {
+    /// The later one is refused.
+    Folded,
+    /// They are two signals: document 01's rule, which the archive reading keeps.
+    Exact,
+}
+
+/// A signal: its name, and the text and the line that first declare it.
+pub struct Signal {
+    pub name: Vec<u8>,
+    pub text: u32,
+    pub line: usize,
+}
+
+/// The signals by number, as first declared over all texts of one reading.
+struct Numbering {
+    rule: Rule,
+    signals: Vec<Signal>,
+}
 
 impl Numbering {
-    fn number(&self, name: &[u8]) -> Option<usize> {
-        self.0.iter().position(|known| known == name)
+    fn by(rule: Rule) -> Numbering {
+        Numbering { rule, signals: Vec::new() }
     }
+
+    fn number(&self, name: &[u8]) -> Option<usize> {
+        self.signals.iter().position(|known| known.name == name)
+    }
+
+    fn refuses(&self, name: &[u8]) -> bool {
+        self.rule == Rule::Folded && first_clash(&self.signals, name).is_some()
+    }
+}
+
+/// The first of the signals whose name clashes with the given one: the two differ, but only in the case of ASCII letters.
+pub fn first_clash<'s>(signals: &'s [Signal], name: &[u8]) -> Option<&'s Signal> {
+    signals.iter().find(|known| known.name != name && known.name.eq_ignore_ascii_case(name))
 }
 
 /// A line that has been taken apart by kind; the fields are still the bytes that stand there.
@@ -27,6 +58,9 @@ enum Record<'t> {
 /// What the lines read so far have built.
 struct Reader<'r> {
     numbering: &'r mut Numbering,
+    /// Which text this is, and the line that is being read.
+    text: u32,
+    line: usize,
     /// How many cells are lent; a lookup has as many as any table needs.
     room: usize,
     table: Option<Table>,
@@ -34,15 +68,16 @@ struct Reader<'r> {
 }
 
 /// A table of the text, or the refusal with its line; 1 and 2 too are of a line and have no place. The numbering goes on from the texts read before.
-pub fn read(text: &[u8], which: u32, room: usize, numbering: &mut Numbering) -> Result<Table, Reply> {
+fn read(text: &[u8], which: u32, room: usize, numbering: &mut Numbering) -> Result<Table, Reply> {
     let refused = |number, line| Err(Reply { number, table: which, line, ..Reply::default() });
     if text.len() > MOST_BYTES {
         return refused(13, 0);
     }
-    let mut reader = Reader { numbering, room, table: None, has_steps: false };
-    for (index, line) in text.split_inclusive(|&byte| byte == b'\n').enumerate() {
+    let mut reader = Reader { numbering, text: which, line: 0, room, table: None, has_steps: false };
+    for line in text.split_inclusive(|&byte| byte == b'\n') {
+        reader.line += 1;
         if let Err(number) = reader.take(line) {
-            return refused(number, index + 1);
+            return refused(number, reader.line);
         }
     }
     reader.table.map_or(refused(22, 0), Ok)
@@ -89,12 +124,15 @@ impl Reader<'_> {
         if known.is_some_and(|signal| has(table.signals(), signal)) {
             return Err(18);
         }
-        if known.is_none() && self.numbering.0.len() == SIGNALS {
+        if self.numbering.refuses(name) {
+            return Err(28);
+        }
+        if known.is_none() && self.numbering.signals.len() == SIGNALS {
             return Err(21);
         }
         let signal = known.unwrap_or_else(|| {
-            self.numbering.0.push(name.to_vec());
-            self.numbering.0.len() - 1
+            self.numbering.signals.push(Signal { name: name.to_vec(), text: self.text, line: self.line });
+            self.numbering.signals.len() - 1
         });
         *(if is_input { &mut table.inputs } else { &mut table.outputs }) |= 1 << signal;
         Ok(())
@@ -149,26 +187,34 @@ fn number(field: &[u8]) -> Result<usize, u32> {
     if value > 65_535 { Err(17) } else { Ok(value) }
 }
 
-pub fn read_alone(text: &[u8], cells: &mut [u16]) -> Outcome {
-    let outcome = read(text, MODULE, cells.len(), &mut Numbering::default());
+pub fn read_alone(rule: Rule, text: &[u8], cells: &mut [u16]) -> Outcome {
+    let outcome = read(text, MODULE, cells.len(), &mut Numbering::by(rule));
     fill(cells, outcome.as_ref().ok());
     Ok(Reply::default().with_table(&outcome?))
 }
 
 /// The module's text to its end first. A refusal leaves both tables without steps, whichever text was at fault.
-pub fn read_together(module: &[u8], plan: &[u8], module_cells: &mut [u16], plan_cells: &mut [u16]) -> Outcome {
-    let outcome = read_both(module, plan, module_cells.len(), plan_cells.len());
-    fill(module_cells, outcome.as_ref().ok().map(|both| &both.0));
-    fill(plan_cells, outcome.as_ref().ok().map(|both| &both.1));
-    let (module, plan, _) = outcome?;
+pub fn read_together(rule: Rule, module: &[u8], plan: &[u8], module_cells: &mut [u16], plan_cells: &mut [u16]) -> Outcome {
+    let (module, plan, _) = read_into(rule, module, plan, module_cells, plan_cells)?;
     Ok(Reply::default().with_table(&module).with_plan(&plan))
 }
 
-pub fn read_both(module: &[u8], plan: &[u8], module_room: usize, plan_room: usize) -> Result<(Table, Table, Numbering), Reply> {
-    let mut numbering = Numbering::default();
+/// A joint reading that leaves its tables in the lent cells.
+pub fn read_into(rule: Rule, module: &[u8], plan: &[u8], module_cells: &mut [u16], plan_cells: &mut [u16]) -> Joint {
+    let outcome = read_both(rule, module, plan, module_cells.len(), plan_cells.len());
+    fill(module_cells, outcome.as_ref().ok().map(|both| &both.0));
+    fill(plan_cells, outcome.as_ref().ok().map(|both| &both.1));
+    outcome
+}
+
+/// The tables of a module's and a plan's text with their common signals, or the refusal.
+type Joint = Result<(Table, Table, Vec<Signal>), Reply>;
+
+pub fn read_both(rule: Rule, module: &[u8], plan: &[u8], module_room: usize, plan_room: usize) -> Joint {
+    let mut numbering = Numbering::by(rule);
     let module = read(module, MODULE, module_room, &mut numbering)?;
     let plan = read(plan, PLAN, plan_room, &mut numbering)?;
-    Ok((module, plan, numbering))
+    Ok((module, plan, numbering.signals))
 }
 
 /// Lent cells beyond the table are 65,535.
@@ -180,12 +226,12 @@ pub fn fill(cells: &mut [u16], table: Option<&Table>) {
 }
 
 /// The name of a signal of two texts, or of one text alone; a refusal is a number and no name.
-pub fn name(module: &[u8], plan: Option<&[u8]>, signal: usize) -> Result<Vec<u8>, u32> {
-    let mut numbering = Numbering::default();
+pub fn name(rule: Rule, module: &[u8], plan: Option<&[u8]>, signal: usize) -> Result<Vec<u8>, u32> {
+    let mut numbering = Numbering::by(rule);
     let enough = MOST_STATES * SIGNALS;
     read(module, MODULE, enough, &mut numbering).map_err(|refusal| refusal.number)?;
     if let Some(plan) = plan {
         read(plan, PLAN, enough, &mut numbering).map_err(|refusal| refusal.number)?;
     }
-    numbering.0.get(signal).cloned().ok_or(12)
+    numbering.signals.get(signal).map(|signal| signal.name.clone()).ok_or(12)
 }

@@ -5,15 +5,18 @@ use crate::reply::{Outcome, Reply};
 use crate::table::{has, members, Table};
 use crate::text::{is_name, MOST_BYTES};
 
-/// Checks 1 to 6, 16 (table name, then signals), 18 and 23; then the text. Bytes past it stay.
+/// Checks 1 to 6, 16 (table name, then signals), 18, 28 and 23; then the text. Bytes past it stay.
 pub fn write(table: &Table, name: &[u8], names: &[&[u8]], out: &mut [u8]) -> Outcome {
     accept(table, 1)?;
     let declared: Vec<&[u8]> = members(table.signals()).map(|signal| signal_name(names, signal)).collect();
     if !is_name(name) || !declared.iter().all(|name| is_name(name)) {
         return Reply::refused(16, 0);
     }
-    if (1..declared.len()).any(|later| declared[..later].contains(&declared[later])) {
+    if any_two(&declared, |one, other| one == other) {
         return Reply::refused(18, 0);
+    }
+    if any_two(&declared, <[u8]>::eq_ignore_ascii_case) {
+        return Reply::refused(28, 0);
     }
     let text = text_of(table, name, names);
     if text.len() > out.len() || text.len() > MOST_BYTES {
@@ -21,6 +24,11 @@ pub fn write(table: &Table, name: &[u8], names: &[&[u8]], out: &mut [u8]) -> Out
     }
     out[..text.len()].copy_from_slice(&text);
     Ok(Reply { value: text.len(), ..Reply::default() })
+}
+
+/// Whether two of the names, at different places, are as asked.
+pub fn any_two(names: &[&[u8]], are: impl Fn(&[u8], &[u8]) -> bool) -> bool {
+    (1..names.len()).any(|later| names[..later].iter().any(|earlier| are(earlier, names[later])))
 }
 
 /// A name that was not lent is an empty one.
