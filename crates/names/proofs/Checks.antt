@@ -22,7 +22,7 @@ use Rattle.text.specs.Fields.{nameOk}
 use Rattle.text.specs.Writing.{nameOf, misnamed, ambiguous}
 use Rattle.text.proofs.Entries.{is-false}
 use Rattle.names.specs.Names.{anyOf, repeated, Named, nameChecks}
-use Rattle.names.proofs.Names.{short-name, named-all}
+use Rattle.names.proofs.Names.{short-name, named-all, exact-none}
 
 -- The declared signals are the members of both lists' union.
 pub declared-has : (a : Automaton) (cells : List ℕ) (x : ℕ) → x < 32 → declared (table a cells) x ≡ has (bitOr (a .inputs) (a .outputs)) x
@@ -53,19 +53,21 @@ module _ (a : Automaton) (name : List ℕ) (names : List (List ℕ)) where
       unfolding first nameChecks
       names-signals f r h = rw (← named, e, ← all-misnamed, ← all, ← misnames, f) h
 
-      module _ (f : q ≡ false) (s : Bool) (repeats : s ≡ repeated Exact set names) where
-        pub names-repeated : s ≡ true → (r : Checked) → r ≡ refuse 18 0 → r ≡ first (nameChecks a name names)
+      module _ (f : q ≡ false) (u : Bool) (alike : u ≡ repeated Folded set names) where
+        pub names-pass : u ≡ false → Accepted ≡ first (nameChecks a name names)
         unfolding first nameChecks
-        names-repeated g r h = rw (← named, e, ← all-misnamed, ← all-repeated Exact, ← all, ← misnames, f, ← repeats, g) h
+        names-pass g =
+            let none : repeated Exact set names ≡ false = exact-none names set (sym alike ∙ g) in
+            rw (← named, e, ← all-misnamed, ← all-repeated Exact, ← all-repeated Folded, ← all, ← misnames, f, none, ← alike, g)
 
-        module _ (g : s ≡ false) (u : Bool) (clashes : u ≡ repeated Folded set names) where
-          pub names-clash : u ≡ true → (r : Checked) → r ≡ refuse 28 0 → r ≡ first (nameChecks a name names)
+        module _ (g : u ≡ true) (s : Bool) (equals : s ≡ repeated Exact set names) where
+          pub names-repeated : s ≡ true → (r : Checked) → r ≡ refuse 18 0 → r ≡ first (nameChecks a name names)
           unfolding first nameChecks
-          names-clash i r h = rw (← named, e, ← all-misnamed, ← all-repeated Exact, ← all-repeated Folded, ← all, ← misnames, f, ← repeats, g, ← clashes, i) h
+          names-repeated i r h = rw (← named, e, ← all-misnamed, ← all-repeated Exact, ← all, ← misnames, f, ← equals, i) h
 
-          pub names-pass : u ≡ false → Accepted ≡ first (nameChecks a name names)
+          pub names-clash : s ≡ false → (r : Checked) → r ≡ refuse 28 0 → r ≡ first (nameChecks a name names)
           unfolding first nameChecks
-          names-pass i = rw (← named, e, ← all-misnamed, ← all-repeated Exact, ← all-repeated Folded, ← all, ← misnames, f, ← repeats, g, ← clashes, i)
+          names-clash i r h = rw (← named, e, ← all-misnamed, ← all-repeated Exact, ← all-repeated Folded, ← all, ← misnames, f, ← equals, i, ← alike, g) h
 
 -- Names that pass are there, and short; so is the table's.
 module _ (a : Automaton) (name : List ℕ) (names : List (List ℕ)) (e : first (nameChecks a name names) ≡ Accepted) where

@@ -17,9 +17,11 @@ use Rattle.theory.proofs.Bounded.{any-at, at-any}
 use Rattle.theory.proofs.Tests.{or-cases, or-left, or-right, and-left, and-right, and-both, same-test}
 use Rattle.sets.proofs.Visit.{low, has-none}
 use Rattle.text.specs.declared.Spelling.{Spelling}
+use Rattle.text.specs.declared.Spelling.the-variants.{Exact, Folded}
 use Rattle.text.specs.Fields.{matches, all, nameByte, nameOk}
 use Rattle.text.specs.Writing.{nameOf}
-use Rattle.text.proofs.Entries.{is-false}
+use Rattle.text.proofs.Names.{same-match}
+use Rattle.text.proofs.Entries.{is-true, is-false}
 use Rattle.names.specs.Names.{texts, anyOf, repeated, Named}
 use Rattle.names.proofs.Visit.{any-lowest, any-empty, of-rest, to-rest}
 
@@ -203,3 +205,13 @@ module _ (c : Spelling) (names : List (List ℕ)) where
 
       pub repeated-again : r ≡ false → repeated c left′ names ≡ answer
       repeated-again e = rw e at either
+
+-- Where no two names match but for the case of letters, no two are equal.
+pub exact-none : (names : List (List ℕ)) (set : ℕ) → repeated Folded set names ≡ false → repeated Exact set names ≡ false
+exact-none names set e = is-false (repeated Exact set names) (λ h. subst T e (folded (find Exact names set h)))
+  where
+    folded : Found Exact names set → T (repeated Folded set names)
+    folded p =
+        let m = nameOf names (p .a) in
+        let n = nameOf names (p .b) in
+        found Folded names set (p .a) (p .b) (p .small) (p .below) (p .first) (p .second) (rw (same-match Folded m n (is-true (matches Exact m n) (p .match))) tt)

@@ -61,7 +61,8 @@ fn is_repeated(spelling: Spelling, signals: u32, names: &[&[u8]]) -> bool
     false
 }
 
-// The table's name, the declared signals' names, then two of these that are equal, then two that clash.
+// The table's name, the declared signals' names, then two of these that are equal, then two that clash. Equal names match in every spelling, so that names
+// which pass are held against each other once.
 pub fn check(a: Automaton, name: &[u8], names: &[&[u8]]) -> Checked
     ensures { λ r. ⌜ r ≡ first (nameChecks a (now (name .entry)) (texts (now (names .entry)))) ⌝ }
 {
@@ -72,10 +73,10 @@ pub fn check(a: Automaton, name: &[u8], names: &[&[u8]]) -> Checked
     if is_misnamed(signals, names) {
         return automaton::refuse(16, 0);
     }
-    if is_repeated(Spelling::Exact, signals, names) {
-        return automaton::refuse(18, 0);
-    }
     if is_repeated(Spelling::Folded, signals, names) {
+        if is_repeated(Spelling::Exact, signals, names) {
+            return automaton::refuse(18, 0);
+        }
         return automaton::refuse(28, 0);
     }
     Checked::Accepted

@@ -5,13 +5,15 @@ use mathlib.Core.List.{List, _∷_, map-append}
 use Prim.Native.Nat.{ℕ, suc, _+_, _-_, _<_, _≤_}
 use native.Mathlib.Numerals.{add-one}
 use native.Mathlib.Omega.{arith}
+use lib.Bits.{bitOr}
 use lib.ListN.{length, take, drop, getD, set, length-map, length-set, length-drop, drop-of-length-le, List·getD-map}
 use lib.Seq.{drop-cons, getD-take, getD-drop, length-take-le, take-suc-set}
 use borrow.Author.Tests.{lt-ltb, le-ltb}
 use Rattle.text.specs.declared.Spelling.{Spelling}
-use Rattle.text.specs.Fields.{spelled, matches}
-use Rattle.text.specs.Reading.{textOf, firstMatch}
-use Rattle.scan.proofs.Bytes.{match-unlike, match-differ}
+use Rattle.text.specs.Fields.{matches}
+use Rattle.text.specs.Reading.{textOf, firstMatch, indexOf}
+use Rattle.text.proofs.Names.{index-le, index-from, first-le-index}
+use Rattle.scan.proofs.Bytes.{match-unlike, match-differ-bit}
 use Rattle.signals.specs.declared.Name.{Name}
 use Rattle.reader.specs.declared.state.Signals.{Signals}
 use Rattle.signals.specs.Names.{nameAt}
@@ -30,14 +32,15 @@ module _ (m p : List ℕ) (n : Name) (t : List ℕ) (whole : t ≡ textOf m p (n
   pub unlike-length : (n .length ≡ length wanted → ⊥) → false ≡ matches c (nameAt m p n) wanted
   unlike-length h = match-unlike c (nameAt m p n) wanted (λ e. h (sym size ∙ e))
 
-  pub unlike-last : 0 < n .length → n .length ≡ length wanted → (x : ℕ) → x ≡ spelled c (getD t (n .from + n .length - 1) 0)
-      → (y : ℕ) → y ≡ spelled c (getD wanted (n .length - 1) 0) → (x ≡ y → ⊥) → false ≡ matches c (nameAt m p n) wanted
-  unlike-last h l x f y g d =
+  -- A last byte that differs in more than the bit of 32.
+  pub unlike-last : 0 < n .length → n .length ≡ length wanted
+      → (bitOr (getD t (n .from + n .length - 1) 0) 32 ≡ bitOr (getD wanted (n .length - 1) 0) 32 → ⊥) → false ≡ matches c (nameAt m p n) wanted
+  unlike-last h l d =
       let i : n .from + (n .length - 1) ≡ n .from + n .length - 1 = omega arith in
       let e : getD (nameAt m p n) (n .length - 1) 0 ≡ getD t (n .from + n .length - 1) 0 =
       ap (λ b. getD b (n .length - 1) 0) part ∙ getD-take (n .length) (drop (n .from) t) (n .length - 1) 0 (omega arith)
       ∙ getD-drop (n .from) t (n .length - 1) 0 ∙ ap (λ j. getD t j 0) i in
-      match-differ c (nameAt m p n) wanted (n .length - 1) (omega (arith, size)) (omega arith) x (rw e f) y g d
+      match-differ-bit c (nameAt m p n) wanted (n .length - 1) (omega (arith, size)) (omega arith) (rw e d)
 
 -- ---- finding a name
 
@@ -50,6 +53,14 @@ module _ (m p : List ℕ) (s : Signals) (fit : Fit s) where
   pub signal-at : (d : Name) (i : ℕ) → i < s .count → getD (signalsOf m p s) i (signalAt m p d) ≡ signalAt m p (getD (s .names) i d)
   unfolding signalsOf
   signal-at d i h = List·getD-map (signalAt m p) (take (s .count) (s .names)) i d ∙ ap (signalAt m p) (getD-take (s .count) (s .names) i d h)
+
+  -- The search begins where no name before matches.
+  module _ (c : Spelling) (n : Name) (i : ℕ) (low : i ≤ firstMatch c (nameAt m p n) (signalsOf m p s)) where
+    pub start-within : i ≤ s .count
+    start-within = omega (arith, index-le c (nameAt m p n) (signalsOf m p s), signals-length)
+
+    pub index-start : (wanted : List ℕ) → wanted ≡ nameAt m p n → i + firstMatch c wanted (drop i (signalsOf m p s)) ≡ firstMatch c wanted (signalsOf m p s)
+    index-start wanted w = rw w (index-from c (nameAt m p n) (signalsOf m p s) i low)
 
   module _ (c : Spelling) (wanted : List ℕ) (i : ℕ) (inv : i + firstMatch c wanted (drop i (signalsOf m p s)) ≡ firstMatch c wanted (signalsOf m p s)) where
     module _ (d : Name) (h : i < s .count) (r : Bool) (told : r ≡ matches c (nameAt m p (getD (s .names) i d)) wanted) where
@@ -71,6 +82,10 @@ module _ (m p : List ℕ) (s : Signals) (fit : Fit s) where
     index-none h g n w =
         let z : firstMatch c wanted (drop i (signalsOf m p s)) ≡ 0 = ap (firstMatch c wanted) (drop-of-length-le (signalsOf m p s) {i = i} (omega (arith, signals-length))) in
         rw (← w) (omega arith)
+
+  -- The name itself is not below the first that matches it in a spelling.
+  pub index-above : (c : Spelling) (n : Name) (i : ℕ) → i ≡ firstMatch c (nameAt m p n) (signalsOf m p s) → i ≤ indexOf (nameAt m p n) (signalsOf m p s)
+  index-above c n i e = omega (arith, e, first-le-index c (nameAt m p n) (signalsOf m p s))
 
 module _ (s : Signals) (name : Name) (number : ℕ) (ok : Addable s number) where
   pub add-known : number < s .count → Added s name number s

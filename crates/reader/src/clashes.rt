@@ -72,7 +72,7 @@ fn visit<'a>(m: &'a [u8], p: &'a [u8], signals: Signals, i: usize, clashes: Clas
 {
     let names = signals.names;
     let name = names[i];
-    let alike = numbering::number_of(m, p, Spelling::Folded, signals, name);
+    let alike = numbering::number_of(m, p, Spelling::Folded, signals, name, 0);
     if i <= alike {
         return clashes;
     }

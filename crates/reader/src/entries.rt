@@ -95,7 +95,8 @@ fn with_role(header: Automaton, role: Role, signal: usize) -> Automaton
     }
 }
 
-// A declaration: 18, 28, 21. The room is not read: it is that of the state, by the contract.
+// A declaration: 18, 28, 21. No name below the first that matches is the name itself, so the search for that goes on from there. The room is not read: it is
+// that of the state, by the contract.
 fn declare<'a>(
     m: &'a [u8],
     p: &'a [u8],
@@ -110,11 +111,12 @@ fn declare<'a>(
 {
     let signals = st.signals;
     let header = st.header;
-    let number = numbering::number_of(m, p, Spelling::Exact, signals, name);
+    let alike = numbering::number_of(m, p, spelling, signals, name, 0);
+    let number = numbering::number_of(m, p, Spelling::Exact, signals, name, alike);
     if signals::is_declared(header, number) {
         return stop(18, st);
     }
-    if numbering::number_of(m, p, spelling, signals, name) < number {
+    if alike < number {
         return stop(28, st);
     }
     if 32 <= number {
@@ -168,7 +170,7 @@ fn step<'a>(
 {
     let signals = st.signals;
     let header = st.header;
-    let number = numbering::number_of(m, p, Spelling::Exact, signals, name);
+    let number = numbering::number_of(m, p, Spelling::Exact, signals, name, 0);
     if lacks(header, from, number, to) {
         return stop(19, st);
     }

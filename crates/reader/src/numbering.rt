@@ -1,5 +1,6 @@
 // The signals that a reading has numbered so far, by the places of their names.
 ghost use mathlib.Core.Path.{_≡_};
+ghost use Prim.Native.Nat.{_≤_};
 ghost use Rattle.text.specs.Fields.{matches};
 ghost use Rattle.text.specs.Reading.{firstMatch};
 ghost use Rattle.signals.specs.Names.{nameAt};
@@ -22,7 +23,8 @@ pub fn none() -> Signals
     }
 }
 
-// Whether a name is these bytes in a spelling. Its length and its last byte tell most names apart, before the part is cut out.
+// Whether a name is these bytes in a spelling. Its length and its last byte tell most names apart, before the part is cut out; the byte does so in every
+// spelling, since the two cases of a letter differ in the bit of 32 alone.
 fn is_named<'a>(m: &'a [u8], p: &'a [u8], spelling: Spelling, name: Name, wanted: &[u8]) -> bool
     ensures { λ r. ⌜ r ≡ matches spelling (nameAt (now (m .entry)) (now (p .entry)) name) (now (wanted .entry)) ⌝ }
 {
@@ -34,7 +36,7 @@ fn is_named<'a>(m: &'a [u8], p: &'a [u8], spelling: Spelling, name: Name, wanted
             return false;
         }
         if 0 < length {
-            if scan::spell(spelling, text[end - 1]) != scan::spell(spelling, wanted[length - 1]) {
+            if text[end - 1] | 32 != wanted[length - 1] | 32 {
                 return false;
             }
         }
@@ -42,21 +44,23 @@ fn is_named<'a>(m: &'a [u8], p: &'a [u8], spelling: Spelling, name: Name, wanted
     scan::matches(spelling, signals::bytes_of(m, p, name), wanted)
 }
 
-// Finds the first signal whose name matches in a spelling: its number, or the next number where there is none.
+// Finds the first signal whose name matches in a spelling, where none below the number `from` does: its number, or the next number where there is none.
 pub fn number_of<'a>(
     m: &'a [u8],
     p: &'a [u8],
     spelling: Spelling,
     signals: Signals,
     name: Name,
+    from: usize,
 ) -> usize
     requires { ⌜ Fit signals ⌝ }
+    requires { ⌜ from ≤ firstMatch spelling (nameAt (now m) (now p) name) (signalsOf (now m) (now p) signals) ⌝ }
     ensures { λ r. ⌜ r ≡ firstMatch spelling (nameAt (now (m .entry)) (now (p .entry)) name) (signalsOf (now (m .entry)) (now (p .entry)) signals) ⌝ }
 {
     let wanted = signals::bytes_of(m, p, name);
     let names = signals.names;
     let count = signals.count;
-    let mut i: usize = 0;
+    let mut i: usize = from;
     while i < count {
         let candidate = names[i];
         if is_named(m, p, spelling, candidate, wanted) {

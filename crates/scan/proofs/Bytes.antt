@@ -6,6 +6,7 @@ use mathlib.Core.List.{List, [], _∷_}
 use Prim.Native.Nat.{ℕ, zero, suc, _+_, _-_, _≤_, _<_, min}
 use native.Mathlib.Numerals.{add-one}
 use native.Mathlib.Omega.{arith}
+use lib.Bits.{bitOr}
 use lib.Dec.{eqb}
 use lib.ListN.{length, take, drop, getD, length-drop, drop-of-length-le}
 use lib.Seq.{drop-cons, take-all}
@@ -13,6 +14,7 @@ use borrow.Author.Tests.{eq-eqb, ne-eqb, le-leb, lt-leb}
 use Rattle.text.specs.declared.Spelling.{Spelling}
 use Rattle.text.specs.declared.Spelling.the-variants.{Folded}
 use Rattle.text.specs.Fields.{upto, lower, spelled, matches}
+use Rattle.text.proofs.Names.{spelled-bit}
 use Rattle.text.proofs.Split.{upto-le}
 use Rattle.scan.specs.Places.{placeIn}
 
@@ -84,6 +86,17 @@ module _ (c : Spelling) where
   pub match-differ : (s t : List ℕ) (i : ℕ) → i < length s → i < length t → (x : ℕ) → x ≡ spelled c (getD s i 0) → (y : ℕ) → y ≡ spelled c (getD t i 0)
       → (x ≡ y → ⊥) → false ≡ matches c s t
   match-differ s t i h k x f y g d = match-differ-at s t i h k (λ e. d (f ∙ e ∙ sym g))
+
+  -- In no spelling do lists match that differ at a byte in more than the bit of 32.
+  pub match-differ-bit : (s t : List ℕ) (i : ℕ) → i < length s → i < length t → (bitOr (getD s i 0) 32 ≡ bitOr (getD t i 0) 32 → ⊥) → false ≡ matches c s t
+  match-differ-bit s t i h k d =
+      match-differ-at s t i h k (λ e. d (sym (spelled-bit c (getD s i 0)) ∙ ap (λ z. bitOr z 32) e ∙ spelled-bit c (getD t i 0)))
+
+  pub match-empty : (s t : List ℕ) → length s ≡ 0 → length t ≡ 0 → true ≡ matches c s t
+  unfolding matches
+  match-empty [] [] h k = refl
+  match-empty [] (y ∷ t) h k = absurd (omega arith)
+  match-empty (x ∷ s) t h k = absurd (omega arith)
 
   -- From the byte i on they match: nothing at their end, one byte more, all.
   module _ (s t : List ℕ) (i : ℕ) where

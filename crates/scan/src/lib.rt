@@ -31,7 +31,7 @@ fn lower(x: u8) -> u8
 }
 
 // Spells a byte: where letters are folded, a capital letter is its small one.
-pub fn spell(spelling: Spelling, x: u8) -> u8
+fn spell(spelling: Spelling, x: u8) -> u8
     ensures { λ r. ⌜ r ≡ spelled spelling x ⌝ }
 {
     match spelling {
@@ -40,12 +40,19 @@ pub fn spell(spelling: Spelling, x: u8) -> u8
     }
 }
 
-// Whether a and b are the same bytes in a spelling. They are compared from the last on: names in one text are often alike but for their ends.
+// Whether a and b are the same bytes in a spelling. They are compared from the last on: names in one text are often alike but for their ends. Most are told
+// apart by the last byte, in every spelling alike, since the two cases of a letter differ in the bit of 32 alone.
 pub fn matches(spelling: Spelling, a: &[u8], b: &[u8]) -> bool
     ensures { λ r. ⌜ r ≡ matches spelling (now (a .entry)) (now (b .entry)) ⌝ }
 {
     let n = a.len();
     if n != b.len() {
+        return false;
+    }
+    if n == 0 {
+        return true;
+    }
+    if a[n - 1] | 32 != b[n - 1] | 32 {
         return false;
     }
     let mut i = n;

@@ -4,11 +4,11 @@ use mathlib.Core.Path.{_≡_, refl, sym, ap, subst, _∙_}
 use mathlib.Core.Logic.{_⊎_, inl, inr, _↔_}
 use mathlib.Core.Bool.{Bool, true, false, cond}
 use mathlib.Core.List.{List, [], _∷_, _++_}
-use Prim.Native.Nat.{ℕ, suc, _+_, _≤_}
+use Prim.Native.Nat.{ℕ, suc, _+_, _<_, _≤_}
 use native.Mathlib.Omega.{arith}
 use native.Mathlib.Decide.{decLt}
-use lib.Dec.{ltb}
-use lib.ListN.{length, drop}
+use lib.Dec.{T, ltb}
+use lib.ListN.{length, getD, drop}
 use lib.Seq.{drop-drop, length-take-le}
 use borrow.Author.Tests.{le-ltb}
 use Rattle.text.specs.declared.Place.{Place}
@@ -17,16 +17,18 @@ use Rattle.text.specs.declared.Spelling.{Spelling}
 use Rattle.text.specs.declared.Spelling.the-variants.{Exact, Folded}
 use Rattle.text.specs.declared.TextRefusal.{TextRefusal}
 use Rattle.text.specs.declared.Clash.{Clash}
-use Rattle.text.specs.Fields.{split, upto}
+use Rattle.text.specs.Fields.{split, upto, clash}
 use Rattle.text.specs.Lines.{Entry, table, declaration, step, refused, roleWord, parse}
 use Rattle.text.specs.Reading.{Signal, textOf, Reading, Result, next, stop, firstMatch, indexOf, known, declaring, entered, Outcome, finished, refuseAt, isNil, readLines, fresh, readFrom, readAlone, Joint, both, neither, readBoth}
-use Rattle.text.specs.Clashes.{Unlike, lineOf, clashesOf}
+use Rattle.text.specs.Lookup.{nobody}
+use Rattle.text.specs.Clashes.{clashing, Unlike, lineOf, declaredAt, clashAt, clashesOf}
 use Rattle.text.proofs.Split.{split-more}
 use Rattle.text.proofs.Names.{index-le}
+use Rattle.text.proofs.Ascending.{In}
 use Rattle.text.proofs.Lines.{From, of-table, of-declaration, of-step, of-refusal, from-line}
 use Rattle.text.proofs.Entries.{started-of, declaring-clash, declaring-next, declaring-of, stepping-of}
 use Rattle.text.proofs.Accepted.{finished-same, onward-finished, unless-nil, read-both, accepted-both}
-use Rattle.text.proofs.Clashes.{Apart, apart-unlike, unlike-apart, none-clashing, apart-known, apart-with, Late, late-put, late-append, late-listed, line-within}
+use Rattle.text.proofs.Clashes.{Apart, apart-unlike, unlike-apart, none-clashing, clashing-are, first-clash, apart-known, apart-with, Late, late-put, late-append, late-listed, line-within}
 
 -- ---- what a reading takes, the archive reading takes
 
@@ -244,3 +246,18 @@ module _ (room : ℕ) (m : List ℕ) (room′ : ℕ) (p : List ℕ) (x y : Readi
       go : (l : List Clash) → clashesOf m p (y .signals) ≡ l → ¬ (l ≡ []) → (r : TextRefusal) × (readBoth Folded room m room′ p ≡ neither r)
       go [] e some = absurd (some refl)
       go (k ∷ rest) e some = (record { number = 28; text = k .later .text; line = k .later .line }, first-listed k rest e)
+
+  names-apart : Apart Exact (y .signals)
+  names-apart = apart-both Exact room m room′ p x y taken .1
+
+  -- A signal of the two texts is listed exactly if one declared before it clashes with it.
+  pub listed-are : (a : ℕ) → a < length (y .signals)
+      → In a (clashing (y .signals)) ↔ ((b : ℕ) × (b < a) × T (clash (getD (y .signals) b nobody .name) (getD (y .signals) a nobody .name)))
+  listed-are a = clashing-are (y .signals) a names-apart
+
+  -- With it stands the first that it clashes with: that one does, and none before it.
+  pub listed-first : (a : ℕ) → a < length (y .signals) → In a (clashing (y .signals))
+      → (b : ℕ) × (b < a) × T (clash (getD (y .signals) b nobody .name) (getD (y .signals) a nobody .name))
+      × ((c : ℕ) → c < b → ¬ T (clash (getD (y .signals) c nobody .name) (getD (y .signals) a nobody .name)))
+      × (clashAt m p (y .signals) a .first ≡ declaredAt m p (getD (y .signals) b nobody))
+  listed-first a = first-clash m p (y .signals) a names-apart

@@ -13,4 +13,5 @@ pub mod NeverTen
 pub mod Clashes
 pub mod ArchiveRule
 pub mod Archive
+pub mod LineNumbers
 pub mod Example

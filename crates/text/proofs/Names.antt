@@ -1,18 +1,40 @@
 -- Names that match in a spelling, and the numbers of names among signals.
 use mathlib.Core.Path.{_≡_, refl, sym, ap}
-use mathlib.Core.Bool.{Bool, true, false, _&&_, cond}
+use mathlib.Core.Bool.{Bool, true, false, not, _&&_, cond}
 use mathlib.Core.List.{List, [], _∷_, _++_}
-use Prim.Native.Nat.{ℕ, zero, suc, _≤_, _<_}
+use Prim.Native.Nat.{ℕ, zero, suc, _+_, _≤_, _<_}
 use native.Mathlib.Omega.{arith}
 use native.Mathlib.Decide.{decLt, ℕ-discrete}
-use lib.Dec.{eqb}
-use lib.ListN.{length, getD}
+use lib.Bits.{bitOr}
+use lib.Dec.{eqb, leb, leb→le}
+use lib.ListN.{length, getD, drop}
 use borrow.Author.Tests.{eq-eqb, ne-eqb, eqb-true}
+use Rattle.theory.specs.Bounded.{any}
+use Rattle.theory.proofs.Bounded.{at-any}
+use Rattle.theory.proofs.Tests.{and-right}
 use Rattle.text.specs.declared.Spelling.{Spelling}
-use Rattle.text.specs.declared.Spelling.the-variants.{Exact}
+use Rattle.text.specs.declared.Spelling.the-variants.{Exact, Folded}
 use Rattle.text.specs.Fields.{spelled, matches, same}
 use Rattle.text.specs.Reading.{Signal, firstMatch, indexOf}
 use Rattle.text.specs.Lookup.{nobody}
+
+-- ---- bytes
+
+-- The two cases of a letter differ in the bit of 32 alone, as is tried of all capital letters.
+pub spelled-bit : (c : Spelling) (x : ℕ) → bitOr (spelled c x) 32 ≡ bitOr x 32
+unfolding any
+spelled-bit Exact x = refl
+spelled-bit Folded x = go (leb 65 x && leb x 90) refl
+  where
+    differs : ℕ → Bool
+    differs x = (leb 65 x && leb x 90) && not (eqb (bitOr (x + 32) 32) (bitOr x 32))
+
+    go : (b : Bool) → (leb 65 x && leb x 90) ≡ b → bitOr (cond b (x + 32) x) 32 ≡ bitOr x 32
+    go true e = elim (ℕ-discrete (bitOr (x + 32) 32) (bitOr x 32)) [
+      | yes q ↦ q
+      | no d ↦ absurd (at-any 91 differs x (omega (arith, leb→le x 90 (and-right (leb 65 x) (leb x 90) (rw e tt)))) (rw (e, ne-eqb (bitOr (x + 32) 32) (bitOr x 32) d) tt))
+    ]
+    go false e = refl
 
 -- ---- names that match
 
@@ -60,6 +82,18 @@ unfolding firstMatch
 index-le c n [] = omega arith
 index-le c n (s ∷ l) =
     elim (matches c (s .name) n) as (λ b. cond b 0 (suc (firstMatch c n l)) ≤ suc (length l)) [ true ↦ omega arith | false ↦ omega (arith, index-le c n l) ]
+
+-- From a number on below which no name matches, it is found among the others.
+pub index-from : (c : Spelling) (n : List ℕ) (l : List Signal) (i : ℕ) → i ≤ firstMatch c n l → i + firstMatch c n (drop i l) ≡ firstMatch c n l
+unfolding firstMatch
+index-from c n l zero h = omega arith
+index-from c n [] (suc i) h = absurd (omega arith)
+index-from c n (s ∷ l) (suc i) h = go (matches c (s .name) n) (index-from c n l i) h
+  where
+    go : (b : Bool) → (i ≤ firstMatch c n l → i + firstMatch c n (drop i l) ≡ firstMatch c n l) → suc i ≤ cond b 0 (suc (firstMatch c n l))
+        → suc i + firstMatch c n (drop i l) ≡ cond b 0 (suc (firstMatch c n l))
+    go true ih h = absurd (omega arith)
+    go false ih h = omega (arith, ih (omega arith))
 
 -- What comes behind does not change it.
 pub index-append : (c : Spelling) (n : List ℕ) (l m : List Signal) → firstMatch c n l < length l → firstMatch c n (l ++ m) ≡ firstMatch c n l

@@ -33,19 +33,20 @@ returns-2 c =
 is-repeated-requires : tie.Need-is-repeated-requires
 is-repeated-requires c κs = named-all _ _ (sym (c .before .is-misnamed .ensures) ∙ c .if2 .left)
 
+is-repeated-requires-2 : tie.Need-is-repeated-requires-2
+is-repeated-requires-2 c κs = let r = c .before in named-all _ _ (sym (r .before .before .is-misnamed .ensures) ∙ r .before .if2 .left)
+
 refuse-requires-3 : tie.Need-refuse-requires-3
 refuse-requires-3 c κs = search needs
 
 returns-3 : tie.Need-returns-3
 returns-3 c =
-    let r = c .before .before in
+    let s = c .before .before in
+    let r = s .before .before in
     let m = r .before .before in
     let e = m .before .before in
     names-repeated (e .before .before .before .args .a) _ _ _ (e .before .is-name .ensures) (e .if1 .left) _ (m .before .declared .ensures) _ (m .is-misnamed .ensures) (r .before .if2 .left)
-    _ (r .is-repeated .ensures) (c .before .if3 .taken) _ (c .refuse3 .ensures)
-
-is-repeated-requires-2 : tie.Need-is-repeated-requires-2
-is-repeated-requires-2 c κs = let r = c .before in named-all _ _ (sym (r .before .before .is-misnamed .ensures) ∙ r .before .if2 .left)
+    _ (r .is-repeated .ensures) (s .before .if3 .taken) _ (s .is-repeated2 .ensures) (c .before .if4 .taken) _ (c .refuse3 .ensures)
 
 refuse-requires-4 : tie.Need-refuse-requires-4
 refuse-requires-4 c κs = search needs
@@ -57,16 +58,15 @@ returns-4 c =
     let m = r .before .before in
     let e = m .before .before in
     names-clash (e .before .before .before .args .a) _ _ _ (e .before .is-name .ensures) (e .if1 .left) _ (m .before .declared .ensures) _ (m .is-misnamed .ensures) (r .before .if2 .left)
-    _ (r .is-repeated .ensures) (s .before .if3 .left) _ (s .is-repeated2 .ensures) (c .before .if4 .taken) _ (c .refuse4 .ensures)
+    _ (r .is-repeated .ensures) (s .before .if3 .taken) _ (s .is-repeated2 .ensures) (c .before .if4 .left) _ (c .refuse4 .ensures)
 
 returns-5 : tie.Need-returns-5
 returns-5 c =
-    let s = c .before in
-    let r = s .before .before in
+    let r = c .before in
     let m = r .before .before in
     let e = m .before .before in
     names-pass (e .before .before .before .args .a) _ _ _ (e .before .is-name .ensures) (e .if1 .left) _ (m .before .declared .ensures) _ (m .is-misnamed .ensures) (r .before .if2 .left)
-    _ (r .is-repeated .ensures) (s .before .if3 .left) _ (s .is-repeated2 .ensures) (c .if4 .left)
+    _ (r .is-repeated .ensures) (c .if3 .left)
 
 pub check-spec : {M : Type 1} → statement M
 check-spec =
@@ -80,9 +80,9 @@ check-spec =
     refuse-requires-2
     returns-2
     is-repeated-requires
+    is-repeated-requires-2
     refuse-requires-3
     returns-3
-    is-repeated-requires-2
     refuse-requires-4
     returns-4
     returns-5)

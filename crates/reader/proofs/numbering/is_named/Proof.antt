@@ -23,30 +23,21 @@ add-end c = search needs
 returns : tie.Need-returns
 returns c = let a = c .before .before .before .before .before .before .before .before .before .args in unlike-length (now (a .m)) (now (a .p)) (a .name) _ (c .before .before .before .before .text-of .ensures .0) (omega arith) (a .spelling) (now (a .wanted)) (omega arith)
 
-sub-spell : tie.Need-sub-spell
-sub-spell c = search needs
+sub-if4 : tie.Need-sub-if4
+sub-if4 c = search needs
 
-shared-slice-read-spell : tie.Need-shared-slice-read-spell
-shared-slice-read-spell c = search needs
+shared-slice-read-if4 : tie.Need-shared-slice-read-if4
+shared-slice-read-if4 c = search needs
 
-spell-requires : tie.Need-spell-requires
-spell-requires c κs = search needs
+sub-if4-2 : tie.Need-sub-if4-2
+sub-if4-2 c = search needs
 
-sub-spell-2 : tie.Need-sub-spell-2
-sub-spell-2 c = search needs
-
-shared-slice-read-spell-2 : tie.Need-shared-slice-read-spell-2
-shared-slice-read-spell-2 c = search needs
-
-spell-requires-2 : tie.Need-spell-requires-2
-spell-requires-2 c κs = search needs
+shared-slice-read-if4-2 : tie.Need-shared-slice-read-if4-2
+shared-slice-read-if4-2 c = search needs
 
 returns-2 : tie.Need-returns-2
-returns-2 c =
-    let t = c .before .before .before .before .before .before .before .before .before .before in
-    let a = t .before .before .before .before .before .args in
-    unlike-last (now (a .m)) (now (a .p)) (a .name) _ (t .text-of .ensures .0) (omega arith) (a .spelling) (now (a .wanted)) (omega arith) (omega arith)
-    _ (c .before .before .before .spell .ensures) _ (c .before .spell2 .ensures) (c .if4 .taken)
+returns-2 c = let a = c .before .before .before .before .before .before .before .before .before .before .before .before .before .args in
+    unlike-last (now (a .m)) (now (a .p)) (a .name) _ (c .before .before .before .before .before .before .before .before .text-of .ensures .0) (omega arith) (a .spelling) (now (a .wanted)) (omega arith) (omega arith) (c .if4 .taken)
 
 bytes-of-requires : tie.Need-bytes-of-requires
 bytes-of-requires c κs = search needs
@@ -67,12 +58,10 @@ is-named-spec =
     cast-end
     add-end
     returns
-    sub-spell
-    shared-slice-read-spell
-    spell-requires
-    sub-spell-2
-    shared-slice-read-spell-2
-    spell-requires-2
+    sub-if4
+    shared-slice-read-if4
+    sub-if4-2
+    shared-slice-read-if4-2
     returns-2
     bytes-of-requires
     matches-requires
