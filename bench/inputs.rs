@@ -138,25 +138,64 @@ pub fn counter_with_errors(k: u32) -> (Owned, Owned) {
     (module, plan)
 }
 
-/// Names of signals: four short ones, or 32 of the greatest length that differ at their ends only.
-pub fn names(many: bool) -> Vec<String> {
-    if many {
-        (0..32).map(|i| format!("reference_line{i:02}")).collect()
-    } else {
-        ["power", "settled", "read", "open"].map(String::from).to_vec()
-    }
+/// Four short names.
+pub fn short_names() -> Vec<String> {
+    ["power", "settled", "read", "open"].map(String::from).to_vec()
 }
 
-/// A table whose text has at most so many bytes, nearly all of them, and that text. Every state has a step for each signal, or for two.
-pub fn text_table(seed: u64, limit: usize, many: bool) -> (Owned, Vec<u8>) {
-    let names = names(many);
-    let width = if many { 32 } else { 2 };
+/// 32 names of the greatest length that differ at their ends only.
+pub fn long_names() -> Vec<String> {
+    (0..32).map(|i| format!("reference_line{i:02}")).collect()
+}
+
+/// A name with its letters capital where the set has their places.
+pub fn respelled(name: &str, capitals: u32) -> String {
+    let letter = |(i, c): (usize, char)| if capitals >> i & 1 == 1 { c.to_ascii_uppercase() } else { c };
+    name.chars().enumerate().map(letter).collect()
+}
+
+/// Texts of a module and of a plan with their tables, and what the lister prints of them.
+pub struct Texts {
+    pub tables: (Owned, Owned),
+    pub module: Vec<u8>,
+    pub plan: Vec<u8>,
+    pub listing: String,
+}
+
+/// One text for both.
+pub fn same_texts(seed: u64, limit: usize, names: &[String]) -> Texts {
+    let (t, text) = text_table(seed, limit, names, 0);
+    Texts { tables: (t.clone(), t), module: text.clone(), plan: text, listing: String::new() }
+}
+
+/// One text for both, with 32 spellings of a name of the greatest length, which differ at their beginnings only.
+pub fn spellings(seed: u64, limit: usize) -> Texts {
+    let names: Vec<String> = (0..32).map(|i| respelled("reference_signal", i)).collect();
+    let listing = (3..34).map(|line| format!("1\t{line}\t1\t2\n")).collect();
+    Texts { listing, ..same_texts(seed, limit, &names) }
+}
+
+/// A module with 16 long names, and a plan with the same in capital letters.
+pub fn capitals(seed: u64, limit: usize) -> Texts {
+    let names = &long_names()[..16];
+    let others: Vec<String> = names.iter().map(|n| n.to_ascii_uppercase()).collect();
+    let (a, module) = text_table(seed, limit, names, 0);
+    let (b, plan) = text_table(seed, limit, &others, 16);
+    let listing = (2..18).map(|line| format!("2\t{line}\t1\t{line}\n")).collect();
+    Texts { tables: (a, b), module, plan, listing }
+}
+
+/// A table whose text has at most so many bytes, nearly all of them, and that text. Its signals have the numbers from `first` on. Every state
+/// has a step for each, or for two of four.
+pub fn text_table(seed: u64, limit: usize, names: &[String], first: usize) -> (Owned, Vec<u8>) {
+    let many = names.len() > 4;
+    let width = if many { names.len() } else { 2 };
     let line = if many { 26 } else { 18 };
     let states = (limit / line / width).max(2);
-    let all = (1u64 << names.len()) - 1;
+    let all = ((1u64 << names.len()) - 1) << first;
     let mut t = Owned::new(states, all as u32 & 0x5555_5555, all as u32 & 0xaaaa_aaaa);
     let mut r = Random(seed);
-    let mut text = heading(&t, &names);
+    let mut text = heading(&t, names, first);
     'states: for p in 0..states {
         for i in 0..width {
             let s = if many { i } else { (p % 2) * 2 + i };
@@ -166,17 +205,17 @@ pub fn text_table(seed: u64, limit: usize, many: bool) -> (Owned, Vec<u8>) {
                 break 'states;
             }
             text.push_str(&step);
-            t.step(p, s, to);
+            t.step(p, first + s, to);
         }
     }
     (t, text.into_bytes())
 }
 
 /// The text before the steps.
-fn heading(t: &Owned, names: &[String]) -> String {
+fn heading(t: &Owned, names: &[String], first: usize) -> String {
     let mut text = format!("table\tstartup\t{}\t0\n", t.states);
     for (s, name) in names.iter().enumerate() {
-        let kind = if t.inputs >> s & 1 == 1 { "in" } else { "out" };
+        let kind = if t.inputs >> (first + s) & 1 == 1 { "in" } else { "out" };
         text.push_str(&format!("{kind}\t{name}\n"));
     }
     text

@@ -1,6 +1,6 @@
 //! What is measured: calls and their inputs.
 
-use crate::inputs::{self, Owned, Random};
+use crate::inputs::{self, Owned, Random, Texts};
 
 pub const SEED: u64 = 20_261_115;
 
@@ -12,6 +12,11 @@ const VARIANTS: u64 = 16;
 
 const SIGNALS: usize = 1_000_000;
 
+/// How long texts are at most: those that are read and written, those of the archive reading, those of the lister.
+const LIMITS: [usize; 4] = [1024, 4096, 16384, 65536];
+const ARCHIVE_LIMITS: [usize; 2] = [4096, 65536];
+const LIST_LIMITS: [usize; 2] = [1024, 65536];
+
 #[derive(Clone, Copy, PartialEq)]
 pub enum Call {
     Judge,
@@ -19,6 +24,8 @@ pub enum Call {
     Refine,
     Synthesize,
     Read,
+    Archive,
+    List,
     Write,
     Follow,
 }
@@ -31,6 +38,8 @@ impl Call {
             Call::Refine => "refine",
             Call::Synthesize => "synthesize",
             Call::Read => "read",
+            Call::Archive => "archive",
+            Call::List => "list",
             Call::Write => "write",
             Call::Follow => "follow",
         }
@@ -39,15 +48,25 @@ impl Call {
     /// What the size of an input counts.
     pub fn unit(self) -> &'static str {
         match self {
-            Call::Read | Call::Write => "bytes",
+            Call::Read | Call::Archive | Call::List | Call::Write => "bytes",
             Call::Follow => "signals",
             Call::Judge => "states",
             _ => "pairs",
         }
     }
+
+    /// How many bytes a call on texts is lent: enough for all that it may print.
+    fn room(self) -> usize {
+        match self {
+            Call::List => 768,
+            Call::Write => 65536,
+            _ => 0,
+        }
+    }
 }
 
-/// One line of the figures: a call and its inputs. Calls take the pairs of tables in turn; texts and signals are in `bytes`.
+/// One line of the figures: a call and its inputs. Calls take the pairs of tables in turn. A module's text, or signals, are in `bytes`, a plan's
+/// text is in `plan`; `listing` is what the lister prints of the two, and `room` says how many bytes a call on texts is lent.
 pub struct Job {
     pub call: Call,
     pub family: String,
@@ -55,7 +74,10 @@ pub struct Job {
     pub size: usize,
     pub tables: Vec<(Owned, Owned)>,
     pub bytes: Vec<u8>,
+    pub plan: Vec<u8>,
+    pub listing: String,
     pub names: Vec<String>,
+    pub room: usize,
 }
 
 impl Job {
@@ -67,7 +89,10 @@ impl Job {
             size: tables[0].0.states * tables[0].1.states,
             tables,
             bytes: Vec::new(),
+            plan: Vec::new(),
+            listing: String::new(),
             names: Vec::new(),
+            room: call.room(),
         }
     }
 
@@ -77,10 +102,19 @@ impl Job {
         job
     }
 
-    pub fn of_bytes(call: Call, family: &str, table: Owned, bytes: Vec<u8>) -> Job {
+    pub fn of_signals(call: Call, family: &str, table: Owned, signals: Vec<u8>) -> Job {
         let mut job = Job::of_table(call, family, table);
-        job.size = bytes.len();
-        job.bytes = bytes;
+        job.size = signals.len();
+        job.bytes = signals;
+        job
+    }
+
+    pub fn of_texts(call: Call, family: &str, texts: Texts) -> Job {
+        let mut job = Job::of_pairs(call, family, vec![texts.tables]);
+        job.size = texts.module.len();
+        job.bytes = texts.module;
+        job.plan = texts.plan;
+        job.listing = texts.listing;
         job
     }
 
@@ -152,19 +186,25 @@ fn counters() -> Vec<Job> {
     plain.chain(errors).map(job).collect()
 }
 
-fn texts() -> Vec<Job> {
+/// Texts in which no names clash, small to large.
+fn texts(call: Call, limits: &[usize]) -> Vec<Job> {
     let mut jobs = Vec::new();
-    for call in [Call::Read, Call::Write] {
-        for (many, name) in [(false, "4 short names"), (true, "32 long names")] {
-            for limit in [1024, 4096, 16384, 65536] {
-                let (table, text) = inputs::text_table(SEED + limit as u64, limit, many);
-                let mut job = Job::of_bytes(call, name, table, text);
-                job.names = inputs::names(many);
-                jobs.push(job);
-            }
+    for (name, names) in [("4 short names", inputs::short_names()), ("32 long names", inputs::long_names())] {
+        for &limit in limits {
+            let mut job = Job::of_texts(call, name, inputs::same_texts(SEED + limit as u64, limit, &names));
+            job.names = names.clone();
+            jobs.push(job);
         }
     }
     jobs
+}
+
+/// Texts in which many names clash: with the first of one text, or each with its like in the other text.
+fn clashes() -> Vec<Job> {
+    let job = |name, make: fn(u64, usize) -> Texts, limit| Job::of_texts(Call::List, name, make(SEED + limit as u64, limit));
+    let spellings = LIST_LIMITS.map(|limit| job("32 spellings of a name", inputs::spellings, limit));
+    let capitals = LIST_LIMITS.map(|limit| job("16 names and their capitals", inputs::capitals, limit));
+    spellings.into_iter().chain(capitals).collect()
 }
 
 fn follows() -> Vec<Job> {
@@ -172,7 +212,7 @@ fn follows() -> Vec<Job> {
         let mut r = Random(SEED);
         let signals = (0..SIGNALS).map(|_| r.below(32) as u8).collect();
         let table = inputs::followed(SEED, states);
-        Job::of_bytes(Call::Follow, &format!("{states} states"), table, signals)
+        Job::of_signals(Call::Follow, &format!("{states} states"), table, signals)
     };
     [64, 4096].map(job).into()
 }
@@ -183,7 +223,11 @@ pub fn all(part: &str) -> Vec<Job> {
     jobs.extend(chains());
     jobs.extend(randoms());
     jobs.extend(counters());
-    jobs.extend(texts());
+    jobs.extend(texts(Call::Read, &LIMITS));
+    jobs.extend(texts(Call::Archive, &ARCHIVE_LIMITS));
+    jobs.extend(texts(Call::List, &LIST_LIMITS));
+    jobs.extend(clashes());
+    jobs.extend(texts(Call::Write, &LIMITS));
     jobs.extend(follows());
     jobs.retain(|j| j.title().contains(part));
     jobs

@@ -9,6 +9,8 @@ pub trait Library {
     fn synthesize(&mut self, a: &Table, b: &Table, cells: &mut [u16], flags: &mut [u8]) -> Reply;
     fn follow(&mut self, t: &Table, state: usize, signal: usize) -> Reply;
     fn read_together(&mut self, m: &[u8], p: &[u8], cm: &mut [u16], cp: &mut [u16]) -> Reply;
+    fn read_archive_together(&mut self, m: &[u8], p: &[u8], cm: &mut [u16], cp: &mut [u16]) -> Reply;
+    fn list(&mut self, m: &[u8], p: &[u8], cm: &mut [u16], cp: &mut [u16], out: &mut [u8]) -> usize;
     fn write(&mut self, t: &Table, name: &[u8], names: &[&[u8]], out: &mut [u8]) -> Reply;
 }
 
@@ -30,6 +32,17 @@ struct Part {
 
 fn part(s: &[u8]) -> Part {
     Part { bytes: s.as_ptr(), length: s.len() }
+}
+
+/// Lent cells as C takes them.
+#[repr(C)]
+struct Cells {
+    cells: *mut u16,
+    count: usize,
+}
+
+fn lent(c: &mut [u16]) -> Cells {
+    Cells { cells: c.as_mut_ptr(), count: c.len() }
 }
 
 #[repr(C)]
@@ -65,6 +78,11 @@ unsafe extern "C" {
         s: usize, i: usize, inputs: u32, outputs: u32, c: *const u16, n: usize, state: usize, signal: usize) -> Reply;
     fn harness_read_together(
         m: *const u8, nm: usize, p: *const u8, np: usize, cm: *mut u16, ncm: usize, cp: *mut u16, ncp: usize) -> Reply;
+    fn harness_read_archive_together(
+        m: *const u8, nm: usize, p: *const u8, np: usize, cm: *mut u16, ncm: usize, cp: *mut u16, ncp: usize) -> Reply;
+    fn harness_list(
+        m: *const u8, nm: usize, p: *const u8, np: usize, cm: *mut u16, ncm: usize, cp: *mut u16, ncp: usize,
+        out: *mut u8, nout: usize) -> usize;
     fn harness_write(
         s: usize, i: usize, inputs: u32, outputs: u32, c: *const u16, n: usize,
         name: *const u8, nn: usize, names: *const Part, nnames: usize, out: *mut u8, nout: usize) -> Reply;
@@ -74,7 +92,9 @@ unsafe extern "C" {
     fn plain_refine(a: *const CTable, b: *const CTable, marks: *mut u8, n: usize) -> Reply;
     fn plain_synthesize(a: *const CTable, b: *const CTable, cells: *mut u16, m: usize, flags: *mut u8, n: usize) -> Reply;
     fn plain_follow(t: *const CTable, state: usize, signal: usize) -> Reply;
-    fn plain_read_together(m: Part, p: Part, cm: *mut u16, ncm: usize, cp: *mut u16, ncp: usize) -> Reply;
+    fn plain_read_together(m: Part, p: Part, cm: Cells, cp: Cells) -> Reply;
+    fn plain_read_archive_together(m: Part, p: Part, cm: Cells, cp: Cells) -> Reply;
+    fn plain_list(m: Part, p: Part, cm: Cells, cp: Cells, out: *mut u8, nout: usize) -> usize;
     fn plain_write(t: *const CTable, name: Part, names: *const Part, n: usize, out: *mut u8, nout: usize) -> Reply;
 }
 
@@ -127,6 +147,23 @@ impl Library for Archive {
         }
     }
 
+    fn read_archive_together(&mut self, m: &[u8], p: &[u8], cm: &mut [u16], cp: &mut [u16]) -> Reply {
+        unsafe {
+            harness_read_archive_together(
+                m.as_ptr(), m.len(), p.as_ptr(), p.len(), cm.as_mut_ptr(), cm.len(), cp.as_mut_ptr(), cp.len(),
+            )
+        }
+    }
+
+    fn list(&mut self, m: &[u8], p: &[u8], cm: &mut [u16], cp: &mut [u16], out: &mut [u8]) -> usize {
+        unsafe {
+            harness_list(
+                m.as_ptr(), m.len(), p.as_ptr(), p.len(), cm.as_mut_ptr(), cm.len(), cp.as_mut_ptr(), cp.len(),
+                out.as_mut_ptr(), out.len(),
+            )
+        }
+    }
+
     fn write(&mut self, t: &Table, name: &[u8], names: &[&[u8]], out: &mut [u8]) -> Reply {
         let parts: [Part; 32] = std::array::from_fn(|i| part(names.get(i).unwrap_or(&&[][..])));
         unsafe {
@@ -161,7 +198,15 @@ impl Library for PlainC {
     }
 
     fn read_together(&mut self, m: &[u8], p: &[u8], cm: &mut [u16], cp: &mut [u16]) -> Reply {
-        unsafe { plain_read_together(part(m), part(p), cm.as_mut_ptr(), cm.len(), cp.as_mut_ptr(), cp.len()) }
+        unsafe { plain_read_together(part(m), part(p), lent(cm), lent(cp)) }
+    }
+
+    fn read_archive_together(&mut self, m: &[u8], p: &[u8], cm: &mut [u16], cp: &mut [u16]) -> Reply {
+        unsafe { plain_read_archive_together(part(m), part(p), lent(cm), lent(cp)) }
+    }
+
+    fn list(&mut self, m: &[u8], p: &[u8], cm: &mut [u16], cp: &mut [u16], out: &mut [u8]) -> usize {
+        unsafe { plain_list(part(m), part(p), lent(cm), lent(cp), out.as_mut_ptr(), out.len()) }
     }
 
     fn write(&mut self, t: &Table, name: &[u8], names: &[&[u8]], out: &mut [u8]) -> Reply {
@@ -193,6 +238,14 @@ impl Library for PlainRust {
 
     fn read_together(&mut self, m: &[u8], p: &[u8], cm: &mut [u16], cp: &mut [u16]) -> Reply {
         plain::read_together(m, p, cm, cp)
+    }
+
+    fn read_archive_together(&mut self, m: &[u8], p: &[u8], cm: &mut [u16], cp: &mut [u16]) -> Reply {
+        plain::read_archive_together(m, p, cm, cp)
+    }
+
+    fn list(&mut self, m: &[u8], p: &[u8], cm: &mut [u16], cp: &mut [u16], out: &mut [u8]) -> usize {
+        self.0.list(m, p, cm, cp, out)
     }
 
     fn write(&mut self, t: &Table, name: &[u8], names: &[&[u8]], out: &mut [u8]) -> Reply {

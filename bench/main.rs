@@ -46,8 +46,8 @@ fn buffers(job: &Job) -> Buffers {
     let (cells, others, bytes) = match job.call {
         Call::Fit | Call::Refine => (0, 0, job.size),
         Call::Synthesize => (job.size * 32, 0, job.size),
-        Call::Read => (a.cells.len(), b.cells.len(), 0),
-        Call::Write => (0, 0, 65536),
+        Call::Read | Call::Archive | Call::List => (a.cells.len(), b.cells.len(), job.room),
+        Call::Write => (0, 0, job.room),
         Call::Judge | Call::Follow => (0, 0, 0),
     };
     Buffers { cells: vec![0x707; cells], others: vec![0x707; others], bytes: vec![7; bytes] }
@@ -66,6 +66,12 @@ fn follow_all(l: &mut dyn Library, job: &Job) -> Reply {
     Reply { value: state, line: moves, ..Reply::default() }
 }
 
+/// The lister, which returns the length of what it prints.
+fn list(l: &mut dyn Library, job: &Job, to: &mut Buffers) -> Reply {
+    let length = l.list(&job.bytes, &job.plan, &mut to.cells, &mut to.others, &mut to.bytes);
+    Reply { value: length, ..Reply::default() }
+}
+
 /// The i-th call.
 fn run(l: &mut dyn Library, r: &Ready, i: usize, to: &mut Buffers) -> Reply {
     let job = r.job;
@@ -76,14 +82,28 @@ fn run(l: &mut dyn Library, r: &Ready, i: usize, to: &mut Buffers) -> Reply {
         Call::Fit => l.fit(&a, &b, &mut to.bytes),
         Call::Refine => l.refine(&a, &b, &mut to.bytes),
         Call::Synthesize => l.synthesize(&a, &b, &mut to.cells, &mut to.bytes),
-        Call::Read => l.read_together(&job.bytes, &job.bytes, &mut to.cells, &mut to.others),
+        Call::Read => l.read_together(&job.bytes, &job.plan, &mut to.cells, &mut to.others),
+        Call::Archive => l.read_archive_together(&job.bytes, &job.plan, &mut to.cells, &mut to.others),
+        Call::List => list(l, job, to),
         Call::Write => l.write(&a, b"startup", &r.names, &mut to.bytes),
         Call::Follow => follow_all(l, job),
     }
 }
 
-/// The three libraries' common reply to the i-th call; stops the program where they differ.
-fn agree(ls: &mut Libraries, r: &Ready, i: usize) -> Reply {
+/// The refusal number of a call: that of its reply, or the one that the lister printed.
+fn refusal_of(job: &Job, reply: &Reply, to: &Buffers) -> u32 {
+    if job.call != Call::List {
+        return reply.number;
+    }
+    let printed = String::from_utf8_lossy(&to.bytes[..reply.value.min(job.room)]);
+    match printed.split('\t').collect::<Vec<_>>()[..] {
+        ["refused", _, number, _] => number.parse().expect("a number"),
+        _ => 0,
+    }
+}
+
+/// Has the three libraries make the i-th call; their common refusal number. Stops the program where they differ.
+fn agree(ls: &mut Libraries, r: &Ready, i: usize) -> u32 {
     let results = ls.each_mut().map(|l| {
         let mut to = buffers(r.job);
         (run(l.as_mut(), r, i, &mut to), to)
@@ -92,32 +112,49 @@ fn agree(ls: &mut Libraries, r: &Ready, i: usize) -> Reply {
         assert_eq!(*reply, results[0].0, "replies differ: {}", r.job.title());
         assert!(*to == results[0].1, "buffers differ: {}", r.job.title());
     }
-    if results[0].0.number == 0 {
-        check_outcome(r.job, &results[0].1);
+    let (reply, to) = &results[0];
+    let number = refusal_of(r.job, reply, to);
+    if number == 0 {
+        check_outcome(r.job, to);
     }
-    results[0].0
+    number
 }
 
-/// What is known of the outcome: reading a text gives the table that it was made of, writing the table that text; a counter's sequencer has as
-/// many kept states as document 000 says, one for each value.
+/// What is known of the outcome: reading a text gives the table that it was made of, writing the table that text; the lister reads too, and prints
+/// the listing and nothing else; a counter's sequencer has as many kept states as document 000 says, one for each value.
 fn check_outcome(job: &Job, to: &Buffers) {
-    let (a, b) = &job.tables[0];
     let kept = to.bytes.iter().filter(|&&flag| flag == 1).count();
     match job.family.as_str() {
         trials::NAME => {}
         "counter" => assert_eq!(kept, job.size),
         "counter with errors" => assert_eq!(kept, job.size / 2),
-        _ if job.call == Call::Read => assert!(to.cells == a.cells && to.others == b.cells),
-        _ if job.call == Call::Write => assert!(to.bytes[..job.size] == job.bytes),
-        _ => {}
+        _ => match job.call {
+            Call::Read | Call::Archive => check_cells(job, to),
+            Call::List => {
+                check_cells(job, to);
+                check_listing(job, to);
+            }
+            Call::Write => assert!(to.bytes[..job.size] == job.bytes),
+            _ => {}
+        },
     }
+}
+
+fn check_cells(job: &Job, to: &Buffers) {
+    let (a, b) = &job.tables[0];
+    assert!(to.cells == a.cells && to.others == b.cells);
+}
+
+fn check_listing(job: &Job, to: &Buffers) {
+    let (printed, rest) = to.bytes.split_at(job.listing.len());
+    assert!(printed == job.listing.as_bytes() && rest.iter().all(|&b| b == 7));
 }
 
 /// Tries the small inputs; how many calls each refusal number turned away.
 fn try_all(ls: &mut Libraries) -> BTreeMap<u32, usize> {
     let mut counts = BTreeMap::new();
     for job in trials::all(SEED) {
-        *counts.entry(agree(ls, &ready(&job), 0).number).or_default() += 1;
+        *counts.entry(agree(ls, &ready(&job), 0)).or_default() += 1;
     }
     counts
 }
@@ -160,7 +197,7 @@ fn measure(ls: &mut Libraries, r: &Ready) -> [f64; 3] {
 
 /// The three agree on all inputs of a job; the refusal of the first.
 fn agree_on_all(ls: &mut Libraries, r: &Ready) -> u32 {
-    let number = agree(ls, r, 0).number;
+    let number = agree(ls, r, 0);
     for i in 1..r.job.tables.len() {
         agree(ls, r, i);
     }

@@ -22,7 +22,13 @@ struct part {
     size_t length;
 };
 
-/* The reply of every call, field for field that of the archive. */
+/* Cells that are lent to a reading. */
+struct cells {
+    uint16_t *cells;
+    size_t count;
+};
+
+/* The reply of every call but the lister, field for field that of the archive. */
 struct reply {
     uint32_t number;
     uint32_t table;
@@ -47,7 +53,9 @@ struct reply plain_fit(const struct table *a, const struct table *b, uint8_t *fl
 struct reply plain_refine(const struct table *a, const struct table *b, uint8_t *marks, size_t length);
 struct reply plain_synthesize(const struct table *a, const struct table *b, uint16_t *cells, size_t count, uint8_t *flags, size_t length);
 struct reply plain_follow(const struct table *t, size_t state, size_t signal);
-struct reply plain_read_together(struct part m, struct part p, uint16_t *cm, size_t nm, uint16_t *cp, size_t np);
+struct reply plain_read_together(struct part m, struct part p, struct cells cm, struct cells cp);
+struct reply plain_read_archive_together(struct part m, struct part p, struct cells cm, struct cells cp);
+size_t plain_list(struct part m, struct part p, struct cells cm, struct cells cp, uint8_t *out, size_t length);
 struct reply plain_write(const struct table *t, struct part name, const struct part *names, size_t count, uint8_t *out, size_t length);
 
 #endif

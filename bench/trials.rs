@@ -1,12 +1,12 @@
 //! Small random inputs, many of them refused, on which the three libraries must agree before anything is timed.
 
-use crate::inputs::{self, Owned, Random};
+use crate::inputs::{self, Owned, Random, Texts};
 use crate::jobs::{Call, Job};
 use crate::plain::NO_STEP;
 
 pub const NAME: &str = "trial";
 
-const TRIALS: usize = 20_000;
+const TRIALS: usize = 35_000;
 
 /// A set of four signals.
 fn set(r: &mut Random) -> u32 {
@@ -64,19 +64,83 @@ fn pair_trial(r: &mut Random, call: Call) -> Job {
     job
 }
 
-/// A short text with up to two of its bytes changed, left out or doubled.
-fn text_trial(r: &mut Random) -> Job {
-    let (a, mut bytes) = inputs::text_table(r.next(), 120, false);
+/// The four short names; now and then one has capital letters, or is another, one of whose letters may be capital.
+fn few_names(r: &mut Random) -> Vec<String> {
+    let short = inputs::short_names();
+    let name = |i: usize| match r.below(16) {
+        0 => inputs::respelled(&short[i], r.next() as u32),
+        1 => inputs::respelled(&short[r.below(4)], r.below(2) as u32),
+        _ => short[i].clone(),
+    };
+    (0..4).map(name).collect()
+}
+
+/// Four of the 32 long names; now and then one in capital letters, or a new one.
+fn some_names(r: &mut Random) -> Vec<String> {
+    let long = inputs::long_names();
+    let name = |_| match r.below(12) {
+        0 => long[r.below(32)].to_ascii_uppercase(),
+        1 => "reference".into(),
+        _ => long[r.below(32)].clone(),
+    };
+    (0..4).map(name).collect()
+}
+
+/// Short texts of a module and of a plan, which has names of its own or the module's; now and then the module has all 32 that there can be.
+fn texts(r: &mut Random) -> Texts {
+    let crowded = r.below(8) == 0;
+    let names = if crowded { inputs::long_names() } else { few_names(r) };
+    let others = match r.below(2) {
+        _ if crowded => some_names(r),
+        0 => few_names(r),
+        _ => names.clone(),
+    };
+    let (a, module) = inputs::text_table(r.next(), if crowded { 720 } else { 120 }, &names, 0);
+    let (b, plan) = inputs::text_table(r.next(), 120, &others, 0);
+    Texts { tables: (a, b), module, plan, listing: String::new() }
+}
+
+/// Changes a byte, leaves one out, doubles one or turns the case of a letter.
+fn change(r: &mut Random, bytes: &mut Vec<u8>) {
     let letters = b"\t\n0159_azin\r/";
-    for _ in 0..r.below(3) {
-        let at = r.below(bytes.len());
-        match r.below(3) {
-            0 => bytes[at] = letters[r.below(letters.len())],
-            1 => drop(bytes.remove(at)),
-            _ => bytes.insert(at, bytes[at]),
-        }
+    let at = r.below(bytes.len());
+    match r.below(4) {
+        0 => bytes[at] = letters[r.below(letters.len())],
+        1 => drop(bytes.remove(at)),
+        2 => bytes.insert(at, bytes[at]),
+        _ if bytes[at].is_ascii_alphabetic() => bytes[at] ^= 32,
+        _ => {}
     }
-    Job::of_bytes(Call::Read, NAME, a, bytes)
+}
+
+/// Short texts with up to two changes. One lister in four gets so little room that a refusal's line or several clashes may be cut off, though not
+/// a refusal's number.
+fn text_trial(r: &mut Random, call: Call) -> Job {
+    let mut texts = texts(r);
+    for _ in 0..r.below(3) {
+        let text = if r.below(2) == 0 { &mut texts.module } else { &mut texts.plan };
+        change(r, text);
+    }
+    let mut job = Job::of_texts(call, NAME, texts);
+    if call == Call::List && r.below(4) == 0 {
+        job.room = 13 + r.below(8);
+    }
+    job
+}
+
+/// A small table whose names may clash; one in eight has a name that breaks the rule or none for its last signal, one in four little room.
+fn write_trial(r: &mut Random) -> Job {
+    let mut job = Job::of_table(Call::Write, NAME, table(r));
+    job.names = few_names(r);
+    match r.below(16) {
+        0 => job.names[r.below(4)] = ["", "a b", "seventeen_letters"][r.below(3)].into(),
+        1 => drop(job.names.pop()),
+        _ => {}
+    }
+    if r.below(4) == 0 {
+        job.room = r.below(200);
+    }
+    job
 }
 
 /// The first pair count that is too large.
@@ -86,11 +150,14 @@ fn too_many_pairs() -> Job {
 
 pub fn all(seed: u64) -> impl Iterator<Item = Job> {
     let mut r = Random(seed);
-    let random = (0..TRIALS).map(move |i| match i % 4 {
+    let random = (0..TRIALS).map(move |i| match i % 7 {
         0 => pair_trial(&mut r, Call::Fit),
         1 => pair_trial(&mut r, Call::Refine),
         2 => pair_trial(&mut r, Call::Synthesize),
-        _ => text_trial(&mut r),
+        3 => text_trial(&mut r, Call::Read),
+        4 => text_trial(&mut r, Call::Archive),
+        5 => text_trial(&mut r, Call::List),
+        _ => write_trial(&mut r),
     });
     random.chain(std::iter::once_with(too_many_pairs))
 }
