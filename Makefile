@@ -1,6 +1,6 @@
-# make test is the whole gate; make run prints document 01's run; make archives builds what C links; make soak compares with the independent
-# implementation for longer; make bench measures beside plain Rust and plain C.
-.PHONY: test run archives soak bench
+# make test is the whole gate; make run prints document 01's run; make programs builds both programs; make archives builds what C links; make soak
+# compares with the independent implementation for longer; make bench measures beside plain Rust and plain C.
+.PHONY: test run programs archives soak bench
 
 test:
 	@bash tests/gate.sh
@@ -9,6 +9,9 @@ test:
 run:
 	@log=$$(rt check sequencer 2>&1) || { echo "$$log"; exit 1; }
 	@cd examples/ref && ../../target/bin/sequencer
+
+programs:
+	@log=$$(rt check sequencer clashes 2>&1) || { echo "$$log"; exit 1; }
 
 archives:
 	@bash tests/archives.sh
@@ -21,6 +24,5 @@ bench: built
 
 # What soak and bench link and run.
 .PHONY: built
-built:
-	@log=$$(rt check sequencer 2>&1) || { echo "$$log"; exit 1; }
+built: programs
 	@bash tests/archives.sh
