@@ -1,6 +1,6 @@
 // The lister of clashes (document 02, S-9): reads module.tab and plan.tab in the current folder as the archive reading does, and prints where a name
-// differs from an earlier one in the case of letters alone. Which lines those are, also of a file that cannot be read, is the library's; here files are
-// read, room is lent and the lines are written out.
+// differs from an earlier one in the case of letters alone. The library makes every byte of the list, also the refusal of a file that cannot be read; here
+// files are read, room is lent and the list is written out.
 ghost use mathlib.Core.Path.{_≡_};
 ghost use lib.ListN.{length};
 use libc::STDOUT_FILENO;

@@ -10,20 +10,22 @@ use lib.Dec.{T, eqb}
 use lib.ListN.{length, getD, length-append}
 use borrow.Author.Tests.{eq-eqb}
 use Rattle.theory.specs.declared.Refusal.{Refusal}
-use Rattle.theory.specs.declared.Checked.the-variants.{Refused}
-use Rattle.theory.specs.Bounded.{any}
+use Rattle.theory.specs.declared.Checked.{Checked}
+use Rattle.theory.specs.declared.Checked.the-variants.{Accepted, Refused}
 use Rattle.theory.specs.Table.{Table}
-use Rattle.theory.specs.Checks.{Check, refuseAt, first, Passes, declared, tableChecks}
+use Rattle.theory.specs.Checks.{Check, refuseAt, first, unlessRefused, Passes, declared, tableChecks}
 use Rattle.theory.proofs.Bounded.{any-at, at-any, getD-tabulate}
 use Rattle.theory.proofs.Tests.{or-cases, and-left, and-right, and-both, test}
 use Rattle.text.specs.declared.Spelling.the-variants.{Folded}
 use Rattle.text.specs.Fields.{nameOk, matches}
 use Rattle.text.specs.Reading.{Reading, Joint, both, neither, readBoth}
 use Rattle.text.specs.Lookup.{ample, nobody, declares, signalOf, lookup}
-use Rattle.text.specs.Writing.{nameOf, misnamed, ambiguous, writerChecks}
+use Rattle.text.specs.Writing.{nameOf, misnamed, ambiguous, textLength, writerChecks}
 use Rattle.text.proofs.Names.{match-sym}
 use Rattle.text.proofs.Accepted.{accepted-both}
 use Rattle.text.proofs.Archive.{unlike-both}
+use Rattle.writer.specs.declared.Printed.the-variants as reply
+use Rattle.writer.specs.Replies.{writerReply}
 use Rattle.labels.specs.Names.{signalNames}
 
 -- ---- the first check that applies
@@ -59,7 +61,7 @@ module _ (m p : List ℕ) where
   unfolding signalNames
   name-of a h = getD-tabulate (λ a. lookup Folded m p a .name) 0 32 a [] h ∙ rw (let z : 0 + a ≡ a = omega arith in z)
 
-  -- Names that keep the rule do not match but for the case of letters.
+  -- No two names that keep the name rule are the same when the case of letters is ignored.
   names-unlike : (a b : ℕ) → b < a → T (nameOk (lookup Folded m p a .name)) → T (nameOk (lookup Folded m p b .name))
       → ¬ T (matches Folded (lookup Folded m p a .name) (lookup Folded m p b .name))
   unfolding lookup nameOk
@@ -104,3 +106,13 @@ module _ (m p : List ℕ) where
     pub never-28 : (room : ℕ) (r : Refusal) → first (writerChecks t name (signalNames m p) room) ≡ Refused r → ¬ (r .number ≡ 28)
     unfolding writerChecks tableChecks
     never-28 room r = never-refused 28 (writerChecks t name (signalNames m p) room) (λ _ _ _ _ _ _ _ right _. (names-told right, λ _ _. tt)) r
+
+    -- No reply of the writer has 28 either.
+    pub reply-never-28 : (room : ℕ) (r : Refusal) → writerReply t name (signalNames m p) room ≡ reply.Refused r → ¬ (r .number ≡ 28)
+    unfolding writerReply
+    reply-never-28 room r = go (first (writerChecks t name (signalNames m p) room)) refl
+      where
+        go : (k : Checked) → first (writerChecks t name (signalNames m p) room) ≡ k
+            → unlessRefused k reply.Refused (reply.Length (textLength t name (signalNames m p))) ≡ reply.Refused r → ¬ (r .number ≡ 28)
+        go Accepted q e = absurd (let z : _≡_ {A = ℕ} 0 1 = cc in omega arith)
+        go (Refused k) q e = let same : k ≡ r = cc in never-28 room r (q ∙ ap Refused same)

@@ -2,7 +2,7 @@
 -- cells lent, and if not, where it refuses them.
 use mathlib.Core.Path.{_≡_, refl, ap, sym, _∙_}
 use mathlib.Core.Logic.{_↔_}
-use mathlib.Core.List.{List, [], _∷_, _++_, map}
+use mathlib.Core.List.{List, [], _∷_, map}
 use Prim.Native.Nat.{ℕ}
 use native.Mathlib.Omega.{arith}
 use lib.ListN.{length, length-append}
@@ -14,7 +14,7 @@ use Rattle.text.specs.Writing.{decimal, tabbed, printed}
 use Rattle.text.specs.Clashes.{clashesOf}
 use Rattle.text.proofs.Archive.{unlessListed, listed as by-clashes}
 use Rattle.printout.specs.Lines.{clashRow}
-use Rattle.listing.specs.Listing.{clashLines, listed, listingText}
+use Rattle.listing.specs.Listing.{clashLines, listed, listingText, FirstLine}
 
 no-bytes : (k : Clash) (l : List Clash) → clashLines (k ∷ l) ≡ [] → ⊥
 unfolding clashLines printed
@@ -22,12 +22,6 @@ no-bytes k l e = omega (arith, ap length e, length-append (tabbed (clashRow k)) 
 
 both-refused : (x y : Reading) (r : TextRefusal) → both x y ≡ neither r → ⊥
 both-refused x y r e = let z : _≡_ {A = ℕ} 0 1 = cc in omega arith
-
--- The first line of a text that is printed: its first two fields are these two numbers.
-pub record FirstLine (text : List ℕ) (file line : ℕ) : Type 0 where
-  pub others : List (List ℕ)
-  pub rows : List (List (List ℕ))
-  pub lines : text ≡ printed ((decimal file ∷ decimal line ∷ others) ∷ rows)
 
 module _ (m p : List ℕ) (cm cp : ℕ) (x y : Reading) (taken : readBoth Exact cm m cp p ≡ both x y) where
   abbrev clashes : List Clash

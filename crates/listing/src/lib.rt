@@ -26,7 +26,7 @@ fn lines(out: &mut [u8], clashes: ClashList) -> usize
     at
 }
 
-// Lists the clashes of a stored module's and a stored plan's text, or gives the refusal of the archive reading, alone; returns where it ends.
+// Lists the clashes of a stored module's and a stored plan's text, or gives the refusal of the archive reading, alone; returns the place after it.
 pub fn list<'a>(m: &'a [u8], p: &'a [u8], cm: &mut [u16], cp: &mut [u16], out: &mut [u8]) -> usize
     ensures { λ r. ⌜ r ≡ after (length (now (out .entry))) 0 (listingText (now (m .entry)) (now (p .entry)) (length (now (cm .entry))) (length (now (cp .entry)))) ⌝ }
     ensures { λ r. ⌜ now (out .exit) ≡ stored (now (out .entry)) 0 (listingText (now (m .entry)) (now (p .entry)) (length (now (cm .entry))) (length (now (cp .entry)))) ⌝ }

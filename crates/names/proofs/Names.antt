@@ -206,7 +206,7 @@ module _ (c : Spelling) (names : List (List ℕ)) where
       pub repeated-again : r ≡ false → repeated c left′ names ≡ answer
       repeated-again e = rw e at either
 
--- Where no two names match but for the case of letters, no two are equal.
+-- Where no two names are the same when the case of letters is ignored, no two are equal.
 pub exact-none : (names : List (List ℕ)) (set : ℕ) → repeated Folded set names ≡ false → repeated Exact set names ≡ false
 exact-none names set e = is-false (repeated Exact set names) (λ h. subst T e (folded (find Exact names set h)))
   where

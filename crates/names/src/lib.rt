@@ -61,7 +61,7 @@ fn is_repeated(spelling: Spelling, signals: u32, names: &[&[u8]]) -> bool
     false
 }
 
-// The table's name, the declared signals' names, then two of these that are equal, then two that clash. Equal names match in every spelling, so that names
+// Checks the table's name, the declared signals' names, then whether two of these are equal, then whether two clash. Equal names match in every spelling, so that names
 // which pass are held against each other once.
 pub fn check(a: Automaton, name: &[u8], names: &[&[u8]]) -> Checked
     ensures { λ r. ⌜ r ≡ first (nameChecks a (now (name .entry)) (texts (now (names .entry)))) ⌝ }

@@ -13,6 +13,7 @@ use Rattle.text.specs.declared.Spelling.{Spelling}
 use Rattle.text.specs.Fields.{matches}
 use Rattle.text.specs.Reading.{textOf, firstMatch, indexOf}
 use Rattle.text.proofs.Names.{index-le, index-from, first-le-index}
+use Rattle.scan.specs.CaseBit.{caseBit}
 use Rattle.scan.proofs.Bytes.{match-unlike, match-differ-bit}
 use Rattle.signals.specs.declared.Name.{Name}
 use Rattle.reader.specs.declared.state.Signals.{Signals}
@@ -32,15 +33,15 @@ module _ (m p : List ℕ) (n : Name) (t : List ℕ) (whole : t ≡ textOf m p (n
   pub unlike-length : (n .length ≡ length wanted → ⊥) → false ≡ matches c (nameAt m p n) wanted
   unlike-length h = match-unlike c (nameAt m p n) wanted (λ e. h (sym size ∙ e))
 
-  -- A last byte that differs in more than the bit of 32.
-  pub unlike-last : 0 < n .length → n .length ≡ length wanted
-      → (bitOr (getD t (n .from + n .length - 1) 0) 32 ≡ bitOr (getD wanted (n .length - 1) 0) 32 → ⊥) → false ≡ matches c (nameAt m p n) wanted
-  unlike-last h l d =
+  -- A last byte that differs in more than its case.
+  pub unlike-last : 0 < n .length → n .length ≡ length wanted → (b : ℕ) → b ≡ caseBit c
+      → (bitOr (getD t (n .from + n .length - 1) 0) b ≡ bitOr (getD wanted (n .length - 1) 0) b → ⊥) → false ≡ matches c (nameAt m p n) wanted
+  unlike-last h l b f d =
       let i : n .from + (n .length - 1) ≡ n .from + n .length - 1 = omega arith in
       let e : getD (nameAt m p n) (n .length - 1) 0 ≡ getD t (n .from + n .length - 1) 0 =
       ap (λ b. getD b (n .length - 1) 0) part ∙ getD-take (n .length) (drop (n .from) t) (n .length - 1) 0 (omega arith)
       ∙ getD-drop (n .from) t (n .length - 1) 0 ∙ ap (λ j. getD t j 0) i in
-      match-differ-bit c (nameAt m p n) wanted (n .length - 1) (omega (arith, size)) (omega arith) (rw e d)
+      match-differ-bit c (nameAt m p n) wanted (n .length - 1) (omega (arith, size)) (omega arith) b f (rw e d)
 
 -- ---- finding a name
 

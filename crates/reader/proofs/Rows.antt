@@ -5,16 +5,13 @@ use mathlib.Core.List.{List, [], _∷_, _++_, map, append-nil, map-append}
 use Prim.Native.Nat.{ℕ, zero, suc, _+_, _-_, _<_, _≤_}
 use native.Mathlib.Numerals.{add-one}
 use native.Mathlib.Omega.{arith}
-use mir.Syntax.{w64}
-use mir.Val.{Fits}
 use lib.Dec.{eqb, ltb}
 use lib.ListN.{length, take, drop, getD, set, replicate, length-map, length-append, drop-of-length-le}
 use borrow.Author.Tests.{eq-eqb, ne-eqb, lt-ltb, le-ltb}
 use Rattle.theory.proofs.Filled.{any-default}
 use Rattle.text.specs.declared.Clash.{Clash}
-use Rattle.text.specs.declared.Declaration.{Declaration}
 use Rattle.text.specs.declared.Spelling.the-variants.{Exact, Folded}
-use Rattle.text.specs.Fields.{onto, split}
+use Rattle.text.specs.Fields.{onto, split, matches}
 use Rattle.text.specs.Reading.{Signal, firstMatch, readBoth}
 use Rattle.text.specs.Writing.{those}
 use Rattle.text.specs.Lookup.{nobody}
@@ -29,8 +26,8 @@ use Rattle.reader.specs.declared.Listing.{Listing}
 use Rattle.reader.specs.declared.state.Signals.{Signals}
 use Rattle.reader.specs.declared.state.Both.{Both}
 use Rattle.reader.specs.State.{signalAt, signalsOf, Fit, ReadsBoth}
-use Rattle.reader.specs.Clashes.{unused, inRows, listing, ends, clashesBelow, Visitable}
-use Rattle.reader.proofs.Names.{signals-length, signal-at}
+use Rattle.reader.specs.Clashes.{unused, inRows, listing, ends, withClash, clashesBelow, Visitable}
+use Rattle.reader.proofs.Names.{signals-length, signal-at, index-found, index-next}
 use Rattle.reader.proofs.Meaning.{both-ended, both-finished}
 
 -- ---- lines
@@ -101,11 +98,8 @@ module _ (m p : List ℕ) (s : Signals) (i : ℕ) (c : ClashList) (v : Visitable
   unfolding clashesBelow
   few = omega (arith, length-map (those (λ a. ltb (firstAlike signals a) a) 0 i) (clashAt m p signals), those-few (λ a. ltb (firstAlike signals a) a) 0 i)
 
-  pub row-free : c .count < 32
+  row-free : c .count < 32
   row-free = omega (arith, ap (λ x. x .count) (v .done), few, v .below, v .fit .few)
-
-  pub row-fits : Fits w64 (c .count + 1)
-  row-fits = record { fits = omega (arith, row-free) }
 
   signal-of : (d : Name) (a : ℕ) → a < s .count → getD signals a nobody ≡ signalAt m p (getD (s .names) a d)
   signal-of d a h = any-default signals a nobody (signalAt m p d) (omega (arith, h, signals-length m p s (v .fit))) ∙ signal-at m p s (v .fit) d a h
@@ -128,30 +122,70 @@ module _ (m p : List ℕ) (s : Signals) (i : ℕ) (c : ClashList) (v : Visitable
       ap (λ b. map (clashAt m p signals) (cond b (i ∷ []) [])) (lt-ltb (firstAlike signals i) i h) in
       sym (next-found ∙ ap (λ l. found ++ l) e)
 
-  module _ (d : Name) (name : Name) (here : name ≡ getD (s .names) i d) (alike : ℕ) (first-alike : alike ≡ firstMatch Folded (nameAt m p name) signals) where
-    signal-here : getD signals i nobody ≡ signalAt m p name
-    signal-here = signal-of d i (v .below) ∙ ap (signalAt m p) (sym here)
-
+  module _ (name : Name) (here : getD signals i nobody ≡ signalAt m p name) (alike : ℕ) (first-alike : alike ≡ firstMatch Folded (nameAt m p name) signals) where
     alike-here : firstAlike signals i ≡ alike
-    alike-here = ap (λ x. firstMatch Folded (x .name) signals) signal-here ∙ sym first-alike
+    alike-here = ap (λ x. firstMatch Folded (x .name) signals) here ∙ sym first-alike
 
-    pub visit-pass : i ≤ alike → c ≡ inRows (clashesBelow m p signals (i + 1))
+    visit-pass : i ≤ alike → c ≡ inRows (clashesBelow m p signals (i + 1))
     visit-pass h = v .done ∙ ap inRows (next-pass (omega (arith, alike-here)))
 
-    module _ (h : alike < i) (e : Name) (other : Name) (there : other ≡ getD (s .names) alike e) (later first : Declaration)
-        (declared : later ≡ declaredAt m p (signalAt m p name)) (earlier : first ≡ declaredAt m p (signalAt m p other)) where
-      clash : _≡_ {A = Clash} (clashAt m p signals i) (record { later = later; first = first })
+    module _ (h : alike < i) (e : Name) (other : Name) (there : other ≡ getD (s .names) alike e) where
+      clash : clashAt m p signals i ≡ record { later = declaredAt m p (signalAt m p name); first = declaredAt m p (signalAt m p other) }
       clash =
           let signal-there : getD signals (firstAlike signals i) nobody ≡ signalAt m p other =
           ap (λ a. getD signals a nobody) alike-here ∙ signal-of e alike (omega (arith, h, v .below)) ∙ ap (signalAt m p) (sym there) in
-          (λ k. record { later = declaredAt m p (signal-here k); first = declaredAt m p (signal-there k) }) ∙ rw (declared, earlier)
+          (λ k. record { later = declaredAt m p (here k); first = declaredAt m p (signal-there k) })
 
-      pub visit-clash : _≡_ {A = ClashList} (record { rows = set (c .rows) (c .count) (record { later = later; first = first }); count = c .count + 1 })
-          (inRows (clashesBelow m p signals (i + 1)))
+      visit-clash : withClash c (declaredAt m p (signalAt m p name)) (declaredAt m p (signalAt m p other)) ≡ inRows (clashesBelow m p signals (i + 1))
       visit-clash =
-          let more : found ++ record { later = later; first = first } ∷ [] ≡ clashesBelow m p signals (i + 1) =
-          ap (λ x. found ++ x ∷ []) (sym clash) ∙ next-clash (omega (arith, alike-here)) in
-          rw (v .done) (in-rows-more found (record { later = later; first = first }) (omega (arith, few, v .below, v .fit .few)) ∙ ap inRows more)
+          let more = ap (λ x. found ++ x ∷ []) (sym clash) ∙ next-clash (omega (arith, alike-here)) in
+          rw (v .done) (in-rows-more found _ (omega (arith, few, v .below, v .fit .few)) ∙ ap inRows more)
+
+-- While the names before that of the signal i are held against it: none below j matches.
+pub record Searching (m p : List ℕ) (s : Signals) (i : ℕ) (c : ClashList) (name : Name) (wanted : List ℕ) (j : ℕ) : Type 0 where
+  pub visitable : Visitable m p s i c
+  pub within : j ≤ i
+  pub here : getD (signalsOf m p s) i nobody ≡ signalAt m p name
+  pub bytes : wanted ≡ nameAt m p name
+  pub before : j + firstMatch Folded wanted (drop j (signalsOf m p s)) ≡ firstMatch Folded wanted (signalsOf m p s)
+
+pub search-start : (m p : List ℕ) (s : Signals) (i : ℕ) (c : ClashList) → Visitable m p s i c → (d name : Name) → name ≡ getD (s .names) i d
+    → (wanted : List ℕ) → wanted ≡ nameAt m p name → Searching m p s i c name wanted 0
+search-start m p s i c v d name e wanted w = record {
+  visitable = v;
+  within = omega arith;
+  here = signal-of m p s i c v d i (v .below) ∙ ap (signalAt m p) (sym e);
+  bytes = w;
+  before = omega arith;
+}
+
+module _ (m p : List ℕ) (s : Signals) (i : ℕ) (c : ClashList) (name : Name) (wanted : List ℕ) (j : ℕ) (g : Searching m p s i c name wanted j) where
+  pub search-room : c .count < 32
+  search-room = row-free m p s i c (g .visitable)
+
+  pub search-done : i ≤ j → c ≡ inRows (clashesBelow m p (signalsOf m p s) (i + 1))
+  search-done h =
+      let last : i ≤ firstMatch Folded (nameAt m p name) (signalsOf m p s) = rw (← g .bytes) (omega (arith, g .before, g .within)) in
+      visit-pass m p s i c (g .visitable) name (g .here) _ refl last
+
+  module _ (h : j < i) (d candidate : Name) (there : candidate ≡ getD (s .names) j d) (r : Bool) (told : r ≡ matches Folded (nameAt m p candidate) wanted) where
+    below : j < s .count
+    below = omega (arith, g .visitable .below)
+
+    pub search-found : r ≡ true → (x : ClashList) → x ≡ withClash c (declaredAt m p (signalAt m p name)) (declaredAt m p (signalAt m p candidate))
+        → x ≡ inRows (clashesBelow m p (signalsOf m p s) (i + 1))
+    search-found e x f =
+        let first = index-found m p s (g .visitable .fit) Folded wanted j (g .before) d below r (rw (← there) told) name (g .bytes) e in
+        f ∙ visit-clash m p s i c (g .visitable) name (g .here) j first h d candidate there
+
+    pub search-next : r ≡ false → Searching m p s i c name wanted (j + 1)
+    search-next e = record {
+      visitable = g .visitable;
+      within = omega arith;
+      here = g .here;
+      bytes = g .bytes;
+      before = index-next m p s (g .visitable .fit) Folded wanted j (g .before) d below r (rw (← there) told) e;
+    }
 
 -- All signals.
 module _ (m p : List ℕ) (s : Signals) (fit : Fit s) where

@@ -2,10 +2,11 @@
 use mathlib.Core.Path.{_≡_}
 use mathlib.Core.Bool.{true, false, cond}
 use mathlib.Core.List.{List, [], _++_, map}
-use Prim.Native.Nat.{ℕ, _-_, _<_}
+use Prim.Native.Nat.{ℕ, _+_, _-_, _<_}
 use lib.Dec.{eqb, ltb}
-use lib.ListN.{length, replicate}
+use lib.ListN.{length, set, replicate}
 use Rattle.text.specs.declared.Clash.{Clash}
+use Rattle.text.specs.declared.Declaration.{Declaration}
 use Rattle.text.specs.Reading.{Signal, Joint, both, neither}
 use Rattle.text.specs.Writing.{those}
 use Rattle.text.specs.Clashes.{firstAlike, clashAt, clashesOf}
@@ -28,9 +29,13 @@ listing m p (neither r) = record { refused = true; refusal = r; clashes = inRows
 
 -- ---- while they are found
 
--- A byte that ends a line counts.
+-- 1 for an LF, which ends a line; 0 for any other byte.
 abbrev pub ends : ℕ → ℕ
 ends byte = cond (eqb byte 10) 1 0
+
+-- The clashes with one more.
+abbrev pub withClash : ClashList → (later first : Declaration) → ClashList
+withClash c later first = record { rows = set (c .rows) (c .count) (record { later = later; first = first }); count = c .count + 1 }
 
 -- The clashes of the signals below i.
 unfoldable pub clashesBelow : List ℕ → List ℕ → List Signal → ℕ → List Clash

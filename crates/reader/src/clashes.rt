@@ -2,13 +2,13 @@
 ghost use mathlib.Core.Path.{_≡_};
 ghost use mathlib.Core.Bool.{true};
 ghost use mathlib.Core.List.{[]};
-ghost use Prim.Native.Nat.{_+_, _≤_};
+ghost use Prim.Native.Nat.{_+_, _<_, _≤_};
 ghost use lib.ListN.{length};
 ghost use Rattle.text.specs.declared.Spelling.the-variants.{Exact};
 ghost use Rattle.text.specs.Reading.{readBoth, cellsFirst, cellsSecond};
 ghost use Rattle.text.specs.Clashes.{lineOf, declaredAt, clashesOf};
 ghost use Rattle.reader.specs.State.{signalAt, signalsOf, Fit};
-ghost use Rattle.reader.specs.Clashes.{inRows, listing, ends, clashesBelow, Visitable};
+ghost use Rattle.reader.specs.Clashes.{inRows, listing, ends, withClash, clashesBelow, Visitable};
 use crate::ClashList;
 use crate::Listing;
 use crate::numbering;
@@ -34,7 +34,7 @@ fn line_of(text: &[u8], from: usize) -> usize
     line
 }
 
-// Counts a line's end.
+// Gives 1 for an LF, which ends a line, and 0 for any other byte.
 fn breaks(byte: u8) -> usize
     ensures { λ r. ⌜ r ≡ ends byte ⌝ }
     ensures { λ r. ⌜ r ≤ 1 ⌝ }
@@ -65,26 +65,42 @@ fn none() -> ClashList
     }
 }
 
-// Adds the clash of the signal i, if it has one, to those of the signals below it.
-fn visit<'a>(m: &'a [u8], p: &'a [u8], signals: Signals, i: usize, clashes: ClashList) -> ClashList
-    requires { ⌜ Visitable (now m) (now p) signals i clashes ⌝ }
-    ensures { λ r. ⌜ r ≡ inRows (clashesBelow (now (m .entry)) (now (p .entry)) (signalsOf (now (m .entry)) (now (p .entry)) signals) (i + 1)) ⌝ }
+// Adds the clash of a name with an earlier one.
+fn add<'a>(m: &'a [u8], p: &'a [u8], clashes: ClashList, later: Name, first: Name) -> ClashList
+    requires { ⌜ clashes .count < 32 ⌝ }
+    ensures { λ r. ⌜ r ≡ withClash clashes (declaredAt (now (m .entry)) (now (p .entry)) (signalAt (now (m .entry)) (now (p .entry)) later)) (declaredAt (now (m .entry)) (now (p .entry)) (signalAt (now (m .entry)) (now (p .entry)) first)) ⌝ }
 {
-    let names = signals.names;
-    let name = names[i];
-    let alike = numbering::number_of(m, p, Spelling::Folded, signals, name, 0);
-    if i <= alike {
-        return clashes;
-    }
-    let later = declared_at(m, p, name);
-    let first = declared_at(m, p, names[alike]);
     let mut rows = clashes.rows;
     let count = clashes.count;
-    rows[count] = Clash { later, first };
+    rows[count] = Clash {
+        later: declared_at(m, p, later),
+        first: declared_at(m, p, first),
+    };
     ClashList {
         rows,
         count: count + 1,
     }
+}
+
+// Adds the clash of the signal i, if it has one, to those of the signals below it: with the first of these whose name matches it when case is ignored. It
+// looks for that name itself: with `alike_of` called from here too, the compiler would no longer inline that search into the reading of a line.
+fn visit<'a>(m: &'a [u8], p: &'a [u8], signals: Signals, i: usize, clashes: ClashList) -> ClashList
+    requires { ⌜ Visitable (now m) (now p) signals i clashes ⌝ }
+    ensures { λ r. ⌜ r ≡ inRows (clashesBelow (now (m .entry)) (now (p .entry)) (signalsOf (now (m .entry)) (now (p .entry)) signals) (i + 1)) ⌝ }
+{
+    let known = signals.names;
+    let name = known[i];
+    let wanted = signals::bytes_of(m, p, name);
+    let mut j: usize = 0;
+    while j < i {
+        let names = signals.names;
+        let candidate = names[j];
+        if numbering::is_named(m, p, Spelling::Folded, candidate, wanted) {
+            return add(m, p, clashes, name, candidate);
+        }
+        j += 1;
+    }
+    clashes
 }
 
 // Holds each name against those before it.

@@ -111,8 +111,8 @@ fn declare<'a>(
 {
     let signals = st.signals;
     let header = st.header;
-    let alike = numbering::number_of(m, p, spelling, signals, name, 0);
-    let number = numbering::number_of(m, p, Spelling::Exact, signals, name, alike);
+    let alike = numbering::alike_of(m, p, spelling, signals, name);
+    let number = numbering::number_of(m, p, signals, name, alike);
     if signals::is_declared(header, number) {
         return stop(18, st);
     }
@@ -170,7 +170,7 @@ fn step<'a>(
 {
     let signals = st.signals;
     let header = st.header;
-    let number = numbering::number_of(m, p, Spelling::Exact, signals, name, 0);
+    let number = numbering::number_of(m, p, signals, name, 0);
     if lacks(header, from, number, to) {
         return stop(19, st);
     }

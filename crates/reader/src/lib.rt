@@ -1,5 +1,5 @@
-// Reads table text (document 01, "Table text"), line by line to its end: a module's and a plan's text together, or a text alone; into lent cells, or
-// for the place of a signal's name.
+// Reads table text (document 01, "Table text"), line by line to its end: a module's and a plan's text together, or a text alone; into lent cells, for the
+// place of a signal's name, or for the clashes among the names of two stored texts (document 02, S-9).
 ghost use mathlib.Core.Path.{_≡_};
 ghost use lib.ListN.{length};
 ghost use Rattle.text.specs.declared.Spelling.the-variants.{Exact, Folded};

@@ -2,7 +2,7 @@
 ghost use mathlib.Core.Path.{_≡_};
 ghost use Prim.Native.Nat.{_≤_};
 ghost use Rattle.text.specs.Fields.{matches};
-ghost use Rattle.text.specs.Reading.{firstMatch};
+ghost use Rattle.text.specs.Reading.{firstMatch, indexOf};
 ghost use Rattle.signals.specs.Names.{nameAt};
 ghost use Rattle.reader.specs.State.{signalsOf, Fit, Nobody, Addable, Added};
 use crate::state::Signals;
@@ -23,9 +23,8 @@ pub fn none() -> Signals
     }
 }
 
-// Whether a name is these bytes in a spelling. Its length and its last byte tell most names apart, before the part is cut out; the byte does so in every
-// spelling, since the two cases of a letter differ in the bit of 32 alone.
-fn is_named<'a>(m: &'a [u8], p: &'a [u8], spelling: Spelling, name: Name, wanted: &[u8]) -> bool
+// Whether a name is these bytes in a spelling. Its length and its last byte, but for the bit of its case, tell most names apart, before the part is cut out.
+pub fn is_named<'a>(m: &'a [u8], p: &'a [u8], spelling: Spelling, name: Name, wanted: &[u8]) -> bool
     ensures { λ r. ⌜ r ≡ matches spelling (nameAt (now (m .entry)) (now (p .entry)) name) (now (wanted .entry)) ⌝ }
 {
     let text = signals::text_of(m, p, name.text as u32);
@@ -36,7 +35,8 @@ fn is_named<'a>(m: &'a [u8], p: &'a [u8], spelling: Spelling, name: Name, wanted
             return false;
         }
         if 0 < length {
-            if text[end - 1] | 32 != wanted[length - 1] | 32 {
+            let bit = scan::case_bit(spelling);
+            if text[end - 1] | bit != wanted[length - 1] | bit {
                 return false;
             }
         }
@@ -44,18 +44,37 @@ fn is_named<'a>(m: &'a [u8], p: &'a [u8], spelling: Spelling, name: Name, wanted
     scan::matches(spelling, signals::bytes_of(m, p, name), wanted)
 }
 
-// Finds the first signal whose name matches in a spelling, where none below the number `from` does: its number, or the next number where there is none.
-pub fn number_of<'a>(
+// Finds the first signal whose name matches in a spelling: its number, or the next number where there is none.
+pub fn alike_of<'a>(
     m: &'a [u8],
     p: &'a [u8],
     spelling: Spelling,
     signals: Signals,
     name: Name,
-    from: usize,
 ) -> usize
     requires { ⌜ Fit signals ⌝ }
-    requires { ⌜ from ≤ firstMatch spelling (nameAt (now m) (now p) name) (signalsOf (now m) (now p) signals) ⌝ }
     ensures { λ r. ⌜ r ≡ firstMatch spelling (nameAt (now (m .entry)) (now (p .entry)) name) (signalsOf (now (m .entry)) (now (p .entry)) signals) ⌝ }
+{
+    let wanted = signals::bytes_of(m, p, name);
+    let names = signals.names;
+    let count = signals.count;
+    let mut i: usize = 0;
+    while i < count {
+        let candidate = names[i];
+        if is_named(m, p, spelling, candidate, wanted) {
+            return i;
+        }
+        i += 1;
+    }
+    i
+}
+
+// Finds the number of a name, which no signal below `from` has: that of the signal that has it, or the next number. It is kept apart from `alike_of` for speed:
+// nearly all lines of a text are steps, and without a spelling as an argument this search is short enough for the compiler to inline it where a step is read.
+pub fn number_of<'a>(m: &'a [u8], p: &'a [u8], signals: Signals, name: Name, from: usize) -> usize
+    requires { ⌜ Fit signals ⌝ }
+    requires { ⌜ from ≤ indexOf (nameAt (now m) (now p) name) (signalsOf (now m) (now p) signals) ⌝ }
+    ensures { λ r. ⌜ r ≡ indexOf (nameAt (now (m .entry)) (now (p .entry)) name) (signalsOf (now (m .entry)) (now (p .entry)) signals) ⌝ }
 {
     let wanted = signals::bytes_of(m, p, name);
     let names = signals.names;
@@ -63,7 +82,7 @@ pub fn number_of<'a>(
     let mut i: usize = from;
     while i < count {
         let candidate = names[i];
-        if is_named(m, p, spelling, candidate, wanted) {
+        if is_named(m, p, Spelling::Exact, candidate, wanted) {
             return i;
         }
         i += 1;

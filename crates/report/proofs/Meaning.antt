@@ -1,12 +1,12 @@
 -- What a reader of a report may conclude, whatever is lent (01, "The program and one full run"): no digit of a figure is lost, more than 1,024
 -- pairs get 10, and a refusal leaves nothing half done in the lent buffers.
-use mathlib.Core.Path.{_≡_, refl, subst, ap, _∙_}
+use mathlib.Core.Path.{_≡_, refl, ap, _∙_}
 use mathlib.Core.Bool.{Bool, true, false, not, _||_, cond}
 use mathlib.Core.List.{List, [], _∷_, _++_, append-nil}
-use Prim.Native.Nat.{ℕ, suc, _+_, _*_, _≤_, _<_}
+use Prim.Native.Nat.{ℕ, _+_, _*_, _≤_, _<_}
 use native.Mathlib.Omega.{arith}
 use native.Mathlib.Decide.{ℕ-discrete}
-use lib.Dec.{T, eqb, ltb, nltb→le}
+use lib.Dec.{T, eqb, ltb}
 use lib.ListN.{length, drop, replicate}
 use borrow.Author.Tests.{ne-eqb}
 use Rattle.theory.specs.declared.Checked.{Checked}
@@ -20,11 +20,8 @@ use Rattle.theory.proofs.Checks.{first-part, first-refused, first-accepted, bot
 use Rattle.theory.proofs.Controller.{mirror-valid}
 use Rattle.theory.proofs.Tests.{or-right}
 use Rattle.theory.proofs.Verdicts as verdicts
-use Rattle.text.specs.declared.TextRefusal.{TextRefusal}
-use Rattle.text.specs.Fields.{onto, split}
-use Rattle.text.specs.Lines.{parse}
 use Rattle.text.specs.declared.Spelling.the-variants.{Folded}
-use Rattle.text.specs.Reading.{Signal, Result, next, stop, Reading, Outcome, finished, ended, Joint, both, neither, onward, entered, isNil, fresh, refuseAt, readLines, readFrom, readAlone, afterFirst, afterSecond, readBoth, tableRead}
+use Rattle.text.specs.Reading.{Reading, Joint, both, neither, readBoth, tableRead}
 use Rattle.text.specs.Writing.{decimal, tabbed, printed}
 use Rattle.text.proofs.Decimal.{Digits, digits-of}
 use Rattle.emit.specs.Buffer.{stored}

@@ -1,22 +1,23 @@
--- Laws for `find`, `lower`, `matches` and the parts, by what the code knows at the byte i of s, whose length is n: the definition on what is left of s
+-- Laws for `find`, `agree`, `matches` and the parts, by what the code knows at the byte i of s, whose length is n: the definition on what is left of s
 -- makes up the definition on the whole.
 use mathlib.Core.Path.{_≡_, refl, sym, ap, _∙_}
-use mathlib.Core.Bool.{Bool, true, false, _&&_}
+use mathlib.Core.Bool.{Bool, true, false, not, _&&_}
 use mathlib.Core.List.{List, [], _∷_}
 use Prim.Native.Nat.{ℕ, zero, suc, _+_, _-_, _≤_, _<_, min}
 use native.Mathlib.Numerals.{add-one}
 use native.Mathlib.Omega.{arith}
 use lib.Bits.{bitOr}
-use lib.Dec.{eqb}
+use lib.Dec.{eqb, leb}
 use lib.ListN.{length, take, drop, getD, length-drop, drop-of-length-le}
 use lib.Seq.{drop-cons, take-all}
-use borrow.Author.Tests.{eq-eqb, ne-eqb, le-leb, lt-leb}
+use borrow.Author.Tests.{eq-eqb, ne-eqb, le-leb, lt-leb, not-false}
 use Rattle.text.specs.declared.Spelling.{Spelling}
-use Rattle.text.specs.declared.Spelling.the-variants.{Folded}
-use Rattle.text.specs.Fields.{upto, lower, spelled, matches}
-use Rattle.text.proofs.Names.{spelled-bit}
+use Rattle.text.specs.declared.Spelling.the-variants.{Exact, Folded}
+use Rattle.text.specs.Fields.{upto, spelled, matches}
+use Rattle.text.proofs.Names.{lower-bit}
 use Rattle.text.proofs.Split.{upto-le}
 use Rattle.scan.specs.Places.{placeIn}
+use Rattle.scan.specs.CaseBit.{caseBit}
 
 -- What is left at i is the byte there and what is left after it.
 pub drop-step : (s : List ℕ) (i : ℕ) → i < length s → drop i s ≡ getD s i 0 ∷ drop (i + 1) s
@@ -41,20 +42,47 @@ module _ (b : ℕ) (s : List ℕ) (n i : ℕ) (l : n ≡ length s) (e : i + upto
   pub find-none : n ≤ i → length s ≡ upto b s
   find-none h = omega (arith, upto-le b s)
 
--- ---- lower
+-- ---- agree
 
-module _ (x : ℕ) where
-  pub lower-capital : 65 ≤ x → x ≤ 90 → x + 32 ≡ lower x
-  lower-capital h k = rw (le-leb 65 x h, le-leb x 90 k)
+pub bit-small : (c : Spelling) (r : ℕ) → r ≡ caseBit c → r ≤ 32
+bit-small Exact r e = omega arith
+bit-small Folded r e = omega arith
 
-  pub lower-before : x < 65 → x ≡ lower x
-  lower-before h = rw (lt-leb 65 x h)
+module _ (c : Spelling) (x : ℕ) where
+  pub spell-capital : 65 ≤ x → x ≤ 90 → (r : ℕ) → r ≡ caseBit c → x + r ≡ spelled c x
+  spell-capital h k r e = rw e (go c)
+    where
+      go : (c : Spelling) → x + caseBit c ≡ spelled c x
+      go Exact = omega arith
+      go Folded = rw (le-leb 65 x h, le-leb x 90 k)
 
-  pub lower-after : 90 < x → x ≡ lower x
-  lower-after h = rw (lt-leb x 90 h, le-leb 65 x (omega arith))
+  other : (leb 65 x && leb x 90) ≡ false → x ≡ spelled c x
+  other e = go c
+    where
+      go : (c : Spelling) → x ≡ spelled c x
+      go Exact = refl
+      go Folded = rw e
 
-pub spell-folded : (c : Spelling) (x y : ℕ) → c ≡ Folded → y ≡ lower x → y ≡ spelled c x
-spell-folded c x y e f = rw e f
+  pub spell-before : x < 65 → x ≡ spelled c x
+  spell-before h = other (rw (lt-leb 65 x h))
+
+  pub spell-after : 90 < x → x ≡ spelled c x
+  spell-after h = other (rw (lt-leb x 90 h, le-leb 65 x (omega arith)))
+
+module _ (c : Spelling) (x y : ℕ) where
+  -- Bytes that are the same in a spelling differ in the bit at most.
+  same-but-bit : spelled c x ≡ spelled c y → bitOr x (caseBit c) ≡ bitOr y (caseBit c)
+  same-but-bit = go c
+    where
+      go : (c : Spelling) → spelled c x ≡ spelled c y → bitOr x (caseBit c) ≡ bitOr y (caseBit c)
+      go Exact e = ap (λ z. bitOr z 0) e
+      go Folded e = sym (lower-bit x) ∙ ap (λ z. bitOr z 32) e ∙ lower-bit y
+
+  pub agree-not : (b : ℕ) → b ≡ caseBit c → (bitOr x b ≡ bitOr y b → ⊥) → false ≡ eqb (spelled c x) (spelled c y)
+  agree-not b e d = sym (ne-eqb (spelled c x) (spelled c y) (λ q. d (rw e (same-but-bit q))))
+
+  pub agree-spelled : (u v : ℕ) → u ≡ spelled c x → v ≡ spelled c y → eqb u v ≡ eqb (spelled c x) (spelled c y)
+  agree-spelled u v f g = rw (f, g)
 
 -- ---- matches
 
@@ -83,20 +111,17 @@ module _ (c : Spelling) where
   match-differ-at [] t i h k d = absurd (omega arith)
   match-differ-at (x ∷ s) [] i h k d = absurd (omega arith)
 
-  pub match-differ : (s t : List ℕ) (i : ℕ) → i < length s → i < length t → (x : ℕ) → x ≡ spelled c (getD s i 0) → (y : ℕ) → y ≡ spelled c (getD t i 0)
-      → (x ≡ y → ⊥) → false ≡ matches c s t
-  match-differ s t i h k x f y g d = match-differ-at s t i h k (λ e. d (f ∙ e ∙ sym g))
+  pub match-differ : (s t : List ℕ) (i : ℕ) → i < length s → i < length t → (r : Bool) → r ≡ eqb (spelled c (getD s i 0)) (spelled c (getD t i 0))
+      → not r ≡ true → false ≡ matches c s t
+  match-differ s t i h k r f d = match-differ-at s t i h k (λ e. no (sym (f ∙ eq-eqb _ _ e)) d)
+    where
+      no : {r : Bool} → true ≡ r → not r ≡ true → ⊥
+      no e d = let z : _≡_ {A = ℕ} 0 1 = cc in omega arith
 
-  -- In no spelling do lists match that differ at a byte in more than the bit of 32.
-  pub match-differ-bit : (s t : List ℕ) (i : ℕ) → i < length s → i < length t → (bitOr (getD s i 0) 32 ≡ bitOr (getD t i 0) 32 → ⊥) → false ≡ matches c s t
-  match-differ-bit s t i h k d =
-      match-differ-at s t i h k (λ e. d (sym (spelled-bit c (getD s i 0)) ∙ ap (λ z. bitOr z 32) e ∙ spelled-bit c (getD t i 0)))
-
-  pub match-empty : (s t : List ℕ) → length s ≡ 0 → length t ≡ 0 → true ≡ matches c s t
-  unfolding matches
-  match-empty [] [] h k = refl
-  match-empty [] (y ∷ t) h k = absurd (omega arith)
-  match-empty (x ∷ s) t h k = absurd (omega arith)
+  -- Nor do lists that differ at a byte in more than the bit in which cases differ.
+  pub match-differ-bit : (s t : List ℕ) (i : ℕ) → i < length s → i < length t → (b : ℕ) → b ≡ caseBit c → (bitOr (getD s i 0) b ≡ bitOr (getD t i 0) b → ⊥)
+      → false ≡ matches c s t
+  match-differ-bit s t i h k b e d = match-differ-at s t i h k (λ q. d (rw e (same-but-bit c (getD s i 0) (getD t i 0) q)))
 
   -- From the byte i on they match: nothing at their end, one byte more, all.
   module _ (s t : List ℕ) (i : ℕ) where
@@ -105,12 +130,12 @@ module _ (c : Spelling) where
     match-end h k = rw (drop-of-length-le s {i = i} h, drop-of-length-le t {i = i} k)
 
     pub match-more : 0 < i → i ≤ length s → i ≤ length t → matches c (drop i s) (drop i t) ≡ true
-        → (x : ℕ) → x ≡ spelled c (getD s (i - 1) 0) → (y : ℕ) → y ≡ spelled c (getD t (i - 1) 0) → x ≡ y
+        → (r : Bool) → r ≡ eqb (spelled c (getD s (i - 1) 0)) (spelled c (getD t (i - 1) 0)) → not r ≡ false
         → matches c (drop (i - 1) s) (drop (i - 1) t) ≡ true
     unfolding matches
-    match-more p h k e x f y g d =
+    match-more p h k e r f d =
         let z : i - 1 + 1 ≡ i = omega arith in
-        rw (drop-step s (i - 1) (omega arith), drop-step t (i - 1) (omega arith), ← f, ← g, eq-eqb x y d, z) e
+        rw (drop-step s (i - 1) (omega arith), drop-step t (i - 1) (omega arith), ← f, not-false r d, z) e
 
     pub match-all : i ≤ 0 → matches c (drop i s) (drop i t) ≡ true → true ≡ matches c s t
     match-all h e = let z : i ≡ 0 = omega arith in sym (rw z at e)

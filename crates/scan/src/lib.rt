@@ -2,10 +2,12 @@
 // back is given by its bytes and by its place, an empty one too.
 ghost use mathlib.Core.Path.{_≡_};
 ghost use Prim.Native.Nat.{_-_};
+ghost use lib.Dec.{eqb};
 ghost use lib.ListN.{take, drop};
 ghost use denote.Ref.{ptr};
-ghost use Rattle.text.specs.Fields.{upto, lower, spelled, matches, same};
+ghost use Rattle.text.specs.Fields.{upto, spelled, matches, same};
 ghost use Rattle.scan.specs.Places.{placeIn};
+ghost use Rattle.scan.specs.CaseBit.{caseBit};
 use text::Spelling;
 
 // How many bytes stand before the first b; all where there is none.
@@ -20,28 +22,38 @@ pub fn find(s: &[u8], b: u8) -> usize
     s.len()
 }
 
-// Makes a capital letter of ASCII its small one.
-fn lower(x: u8) -> u8
-    ensures { λ r. ⌜ r ≡ lower x ⌝ }
+// Gives the bit in which the two cases of a letter differ, where letters are folded; else none. Bytes that differ once it is set in both do not match.
+pub fn case_bit(spelling: Spelling) -> u8
+    ensures { λ r. ⌜ r ≡ caseBit spelling ⌝ }
+{
+    match spelling {
+        Spelling::Exact => 0,
+        Spelling::Folded => 32,
+    }
+}
+
+// Spells a byte: where letters are folded, a capital letter is its small one. No test in it hangs on the spelling, so that a loop over bytes stays one loop.
+fn spell(spelling: Spelling, x: u8) -> u8
+    ensures { λ r. ⌜ r ≡ spelled spelling x ⌝ }
 {
     match x {
-        b'A'..=b'Z' => x + 32,
+        b'A'..=b'Z' => x + case_bit(spelling),
         _ => x,
     }
 }
 
-// Spells a byte: where letters are folded, a capital letter is its small one.
-fn spell(spelling: Spelling, x: u8) -> u8
-    ensures { λ r. ⌜ r ≡ spelled spelling x ⌝ }
+// Whether two bytes are the same in a spelling. Most pairs differ, and the first test is the shorter one.
+fn agree(spelling: Spelling, x: u8, y: u8) -> bool
+    ensures { λ r. ⌜ r ≡ eqb (spelled spelling x) (spelled spelling y) ⌝ }
 {
-    match spelling {
-        Spelling::Exact => x,
-        Spelling::Folded => lower(x),
+    let bit = case_bit(spelling);
+    if x | bit != y | bit {
+        return false;
     }
+    spell(spelling, x) == spell(spelling, y)
 }
 
-// Whether a and b are the same bytes in a spelling. They are compared from the last on: names in one text are often alike but for their ends. Most are told
-// apart by the last byte, in every spelling alike, since the two cases of a letter differ in the bit of 32 alone.
+// Whether a and b are the same bytes in a spelling. They are compared from the last on: names in one text are often alike but for their ends.
 pub fn matches(spelling: Spelling, a: &[u8], b: &[u8]) -> bool
     ensures { λ r. ⌜ r ≡ matches spelling (now (a .entry)) (now (b .entry)) ⌝ }
 {
@@ -49,16 +61,10 @@ pub fn matches(spelling: Spelling, a: &[u8], b: &[u8]) -> bool
     if n != b.len() {
         return false;
     }
-    if n == 0 {
-        return true;
-    }
-    if a[n - 1] | 32 != b[n - 1] | 32 {
-        return false;
-    }
     let mut i = n;
     while 0 < i {
         i -= 1;
-        if spell(spelling, a[i]) != spell(spelling, b[i]) {
+        if !agree(spelling, a[i], b[i]) {
             return false;
         }
     }

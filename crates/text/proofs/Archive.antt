@@ -15,7 +15,6 @@ use Rattle.text.specs.declared.Place.{Place}
 use Rattle.text.specs.declared.Role.{Role}
 use Rattle.text.specs.declared.Spelling.{Spelling}
 use Rattle.text.specs.declared.Spelling.the-variants.{Exact, Folded}
-use Rattle.text.specs.declared.TextRefusal.{TextRefusal}
 use Rattle.text.specs.declared.Clash.{Clash}
 use Rattle.text.specs.Fields.{split, upto, clash}
 use Rattle.text.specs.Lines.{Entry, table, declaration, step, refused, roleWord, parse}
@@ -228,24 +227,6 @@ module _ (room : ℕ) (m : List ℕ) (room′ : ℕ) (p : List ℕ) (x y : Readi
             let s = accepted-both Exact room m room′ p x y taken .second in
             rw h (late-refused 1 k (rw (s .extends) (late-append (x .signals) (s .more) w)))
       ]
-
-  pub none-listed : clashesOf m p (y .signals) ≡ [] → readBoth Folded room m room′ p ≡ both x y
-  none-listed e = listed ∙ ap (λ l. unlessListed l (both x y)) e
-
-  pub first-listed : (k : Clash) (rest : List Clash) → clashesOf m p (y .signals) ≡ k ∷ rest
-      → readBoth Folded room m room′ p ≡ neither (record { number = 28; text = k .later .text; line = k .later .line })
-  first-listed k rest e = listed ∙ ap (λ l. unlessListed l (both x y)) e
-
-  -- The reading refuses them exactly if a clash is listed.
-  pub refused-listed : ((r : TextRefusal) × (readBoth Folded room m room′ p ≡ neither r)) ↔ (¬ (clashesOf m p (y .signals) ≡ []))
-  refused-listed = (
-    λ (r, e) none. let f = none-listed none in let z : _≡_ {A = ℕ} 0 1 = cc in omega arith,
-    λ some. go (clashesOf m p (y .signals)) refl some,
-  )
-    where
-      go : (l : List Clash) → clashesOf m p (y .signals) ≡ l → ¬ (l ≡ []) → (r : TextRefusal) × (readBoth Folded room m room′ p ≡ neither r)
-      go [] e some = absurd (some refl)
-      go (k ∷ rest) e some = (record { number = 28; text = k .later .text; line = k .later .line }, first-listed k rest e)
 
   names-apart : Apart Exact (y .signals)
   names-apart = apart-both Exact room m room′ p x y taken .1

@@ -49,7 +49,7 @@ clash-below n l = (there, back)
 
 -- ---- the signals of a reading
 
--- No signal's name matches one before it in the spelling: where letters are folded, no two names match but for their case.
+-- No signal's name matches one before it in the spelling.
 abbrev pub Apart : Spelling → List Signal → Type 0
 Apart c l = (a : ℕ) → a < length l → a ≤ firstMatch c (getD l a nobody .name) l
 
@@ -62,7 +62,7 @@ unlike-apart l u b k = elim (decLt (firstAlike l b) b) [
   | no g ↦ omega arith
 ]
 
--- No signal clashes exactly if no two names match but for the case of letters.
+-- No signal clashes exactly if no two names are the same when the case of letters is ignored.
 pub none-clashing : (l : List Signal) → (clashing l ≡ []) ↔ Unlike l
 unfolding clashing
 none-clashing l = (

@@ -10,7 +10,7 @@ use Rattle.text.specs.declared.Spelling.{Spelling}
 use Rattle.text.specs.declared.TextRefusal.{TextRefusal}
 use Rattle.text.specs.Fields.{onto, split}
 use Rattle.text.specs.Lines.{parse}
-use Rattle.text.specs.Reading.{Signal, textOf, Reading, Result, next, stop, entered, Outcome, finished, ended, refuseAt, onward, isNil, readLines, fresh, readFrom, readAlone, Joint, both, neither, afterFirst, afterSecond, readBoth}
+use Rattle.text.specs.Reading.{Signal, Reading, Result, next, stop, entered, Outcome, finished, ended, refuseAt, onward, isNil, readLines, fresh, readFrom, readAlone, Joint, both, neither, afterFirst, afterSecond, readBoth}
 use Rattle.text.specs.Clashes.{lineOf, declaredAt}
 use Rattle.text.proofs.Accepted.{read-both}
 

@@ -13,18 +13,17 @@ use Rattle.theory.specs.Bounded.{any}
 use Rattle.theory.proofs.Bounded.{at-any}
 use Rattle.theory.proofs.Tests.{and-right}
 use Rattle.text.specs.declared.Spelling.{Spelling}
-use Rattle.text.specs.declared.Spelling.the-variants.{Exact, Folded}
-use Rattle.text.specs.Fields.{spelled, matches, same}
+use Rattle.text.specs.declared.Spelling.the-variants.{Exact}
+use Rattle.text.specs.Fields.{lower, spelled, matches, same}
 use Rattle.text.specs.Reading.{Signal, firstMatch, indexOf}
 use Rattle.text.specs.Lookup.{nobody}
 
 -- ---- bytes
 
--- The two cases of a letter differ in the bit of 32 alone, as is tried of all capital letters.
-pub spelled-bit : (c : Spelling) (x : ℕ) → bitOr (spelled c x) 32 ≡ bitOr x 32
+-- A byte and its small letter are the same once the bit of 32 is set, as is tried of all capital letters.
+pub lower-bit : (x : ℕ) → bitOr (lower x) 32 ≡ bitOr x 32
 unfolding any
-spelled-bit Exact x = refl
-spelled-bit Folded x = go (leb 65 x && leb x 90) refl
+lower-bit x = go (leb 65 x && leb x 90) refl
   where
     differs : ℕ → Bool
     differs x = (leb 65 x && leb x 90) && not (eqb (bitOr (x + 32) 32) (bitOr x 32))

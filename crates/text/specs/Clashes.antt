@@ -14,7 +14,7 @@ use Rattle.text.specs.Writing.{those}
 use Rattle.text.specs.Lookup.{nobody}
 
 module _ (l : List Signal) where
-  -- The lowest number whose name matches that of the signal a but for the case of letters: a itself where no earlier name does.
+  -- The lowest number whose name is that of the signal a when the case of letters is ignored: a itself where no earlier name is.
   abbrev pub firstAlike : ℕ → ℕ
   firstAlike a = firstMatch Folded (getD l a nobody .name) l
 
@@ -22,7 +22,7 @@ module _ (l : List Signal) where
   unfoldable pub clashing : List ℕ
   clashing = those (λ a. ltb (firstAlike a) a) 0 (length l)
 
-  -- No two names match but for the case of letters.
+  -- No two names are the same when the case of letters is ignored.
   abbrev pub Unlike : Type 0
   Unlike = (a b : ℕ) → a < b → b < length l → matches Folded (getD l a nobody .name) (getD l b nobody .name) ≡ false
 

@@ -5,11 +5,11 @@ use borrow.Author.Needs.{needs}
 use Rattle.reader.proofs.entries.declare.Statement.{statement}
 use Rattle.reader.proofs.entries.declare.Tie as tie
 
-number-of-requires : tie.Need-number-of-requires
-number-of-requires c κs = search needs
+alike-of-requires : tie.Need-alike-of-requires
+alike-of-requires c κs = search needs
 
-number-of-requires-2 : tie.Need-number-of-requires-2
-number-of-requires-2 c κs = search (index-above, needs)
+number-of-requires : tie.Need-number-of-requires
+number-of-requires c κs = search (index-above, needs)
 
 is-declared-requires : tie.Need-is-declared-requires
 is-declared-requires c κs = search needs
@@ -21,7 +21,7 @@ returns : tie.Need-returns
 returns c =
     let d = c .before .before in
     let ok = d .before .before .before .before .before .before .before .pre in
-    declare-twice _ _ _ _ _ (ok .fit) (d .before .number-of2 .ensures) _ _ _ ok _ (d .is-declared .ensures) (search needs) _ (c .stop .ensures)
+    declare-twice _ _ _ _ _ (ok .fit) (d .before .number-of .ensures) _ _ _ ok _ (d .is-declared .ensures) (search needs) _ (c .stop .ensures)
 
 stop-requires-2 : tie.Need-stop-requires-2
 stop-requires-2 c κs = search needs
@@ -30,8 +30,8 @@ returns-2 : tie.Need-returns-2
 returns-2 c =
     let d = c .before .before .before in
     let ok = d .before .before .before .before .before .before .before .pre in
-    declare-clash _ _ _ _ _ (ok .fit) (d .before .number-of2 .ensures) _ _ _ ok _ (d .is-declared .ensures) (search needs)
-    _ (d .before .before .number-of .ensures) (omega arith) _ (c .stop2 .ensures)
+    declare-clash _ _ _ _ _ (ok .fit) (d .before .number-of .ensures) _ _ _ ok _ (d .is-declared .ensures) (search needs)
+    _ (d .before .before .alike-of .ensures) (omega arith) _ (c .stop2 .ensures)
 
 stop-requires-3 : tie.Need-stop-requires-3
 stop-requires-3 c κs = search needs
@@ -40,8 +40,8 @@ returns-3 : tie.Need-returns-3
 returns-3 c =
     let d = c .before .before .before .before in
     let ok = d .before .before .before .before .before .before .before .pre in
-    declare-many _ _ _ _ _ (ok .fit) (d .before .number-of2 .ensures) _ _ _ ok _ (d .is-declared .ensures) (search needs)
-    _ (d .before .before .number-of .ensures) (omega arith) (omega arith) _ (c .stop3 .ensures)
+    declare-many _ _ _ _ _ (ok .fit) (d .before .number-of .ensures) _ _ _ ok _ (d .is-declared .ensures) (search needs)
+    _ (d .before .before .alike-of .ensures) (omega arith) (omega arith) _ (c .stop3 .ensures)
 
 with-role-requires : tie.Need-with-role-requires
 with-role-requires c κs = search needs
@@ -56,15 +56,15 @@ returns-4 : tie.Need-returns-4
 returns-4 c =
     let d = c .before .before .before .before .before .before in
     let ok = d .before .before .before .before .before .before .before .pre in
-    declare-good _ _ _ _ _ (ok .fit) (d .before .number-of2 .ensures) _ _ _ ok _ (d .is-declared .ensures) (search needs)
-    _ (d .before .before .number-of .ensures) (omega arith) (omega arith) _ _ (c .before .before .with-role .ensures) (c .before .add .ensures) _ (c .go .ensures)
+    declare-good _ _ _ _ _ (ok .fit) (d .before .number-of .ensures) _ _ _ ok _ (d .is-declared .ensures) (search needs)
+    _ (d .before .before .alike-of .ensures) (omega arith) (omega arith) _ _ (c .before .before .with-role .ensures) (c .before .add .ensures) _ (c .go .ensures)
 
 pub declare-spec : {M : Type 1} → statement M
 declare-spec =
     tie.close
     (tie.spec
+    alike-of-requires
     number-of-requires
-    number-of-requires-2
     is-declared-requires
     stop-requires
     returns

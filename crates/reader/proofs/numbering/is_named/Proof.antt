@@ -23,6 +23,9 @@ add-end c = search needs
 returns : tie.Need-returns
 returns c = let a = c .before .before .before .before .before .before .before .before .before .args in unlike-length (now (a .m)) (now (a .p)) (a .name) _ (c .before .before .before .before .text-of .ensures .0) (omega arith) (a .spelling) (now (a .wanted)) (omega arith)
 
+case-bit-requires : tie.Need-case-bit-requires
+case-bit-requires c κs = search needs
+
 sub-if4 : tie.Need-sub-if4
 sub-if4 c = search needs
 
@@ -36,8 +39,12 @@ shared-slice-read-if4-2 : tie.Need-shared-slice-read-if4-2
 shared-slice-read-if4-2 c = search needs
 
 returns-2 : tie.Need-returns-2
-returns-2 c = let a = c .before .before .before .before .before .before .before .before .before .before .before .before .before .args in
-    unlike-last (now (a .m)) (now (a .p)) (a .name) _ (c .before .before .before .before .before .before .before .before .text-of .ensures .0) (omega arith) (a .spelling) (now (a .wanted)) (omega arith) (omega arith) (c .if4 .taken)
+returns-2 c =
+    let k = c .before .before .before in
+    let t = k .before .before .before .before .before .before in
+    let a = t .before .before .before .before .before .args in
+    unlike-last (now (a .m)) (now (a .p)) (a .name) _ (t .text-of .ensures .0) (omega arith) (a .spelling) (now (a .wanted)) (omega arith) (omega arith)
+    _ (k .case-bit .ensures) (c .if4 .taken)
 
 bytes-of-requires : tie.Need-bytes-of-requires
 bytes-of-requires c κs = search needs
@@ -58,6 +65,7 @@ is-named-spec =
     cast-end
     add-end
     returns
+    case-bit-requires
     sub-if4
     shared-slice-read-if4
     sub-if4-2

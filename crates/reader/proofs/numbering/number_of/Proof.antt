@@ -1,7 +1,7 @@
 use mathlib.Core.Path.{_≡_}
 use Prim.Native.Nat.{_+_, _-_, _≤_}
 use lib.ListN.{drop}
-use Rattle.text.specs.Reading.{firstMatch}
+use Rattle.text.specs.Reading.{indexOf}
 use Rattle.reader.specs.State.{signalsOf, Fit}
 use Rattle.reader.proofs.Names.{start-within, index-start, index-found, index-next, index-none}
 use borrow.Author.Needs.{needs}
@@ -9,12 +9,12 @@ use Rattle.reader.proofs.numbering.number_of.Statement.{statement}
 use Rattle.reader.proofs.numbering.number_of.Tie as tie
 
 abbrev Inv-loop : tie.InvT-loop
-Inv-loop m p spelling from wanted names count i₀ i =
+Inv-loop m p from wanted names count i₀ i =
     (i ≤ count) × Fit (record { names = names; count = count })
-    × (i + firstMatch spelling wanted (drop i (signalsOf m p (record { names = names; count = count }))) ≡ firstMatch spelling wanted (signalsOf m p (record { names = names; count = count })))
+    × (i + indexOf wanted (drop i (signalsOf m p (record { names = names; count = count }))) ≡ indexOf wanted (signalsOf m p (record { names = names; count = count })))
 
 abbrev μ-loop : tie.MeasureT-loop
-μ-loop m p spelling from wanted names count i₀ i = count - i
+μ-loop m p from wanted names count i₀ i = count - i
 
 bytes-of-requires : tie.Need-bytes-of-requires Inv-loop μ-loop
 bytes-of-requires c κs = search needs
