@@ -12,7 +12,8 @@ from wrong_programs import trials, unfit_together
 TOP = os.path.join(os.path.dirname(os.path.abspath(__file__)), "..")
 UNFIT = ("is not in scope", "that can be named from here", "no constructor", "has no field", "expected type `tie.Need-")
 FOLLOWS = ("was not admitted", "which is not proved", "which are not proved")
-FAILED = re.compile(r"(?m)^(?:.*/)?((?:proofs|specs)/.*)\.antt:\d+:\d+: error: (.*)$")
+# What an error says goes on in lines that are set in.
+FAILED = re.compile(r"(?m)^(?:.*/)?((?:proofs|specs)/.*)\.antt:\d+:\d+: error: (.*(?:\n  .*)*)$")
 UNPROVED = re.compile(r"(?m)^fn \w+::(\S+): no proof: [^;]*; (.*)$")
 
 
