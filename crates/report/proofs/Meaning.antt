@@ -11,7 +11,6 @@ use lib.ListN.{length, drop, replicate}
 use borrow.Author.Tests.{ne-eqb}
 use Rattle.theory.specs.declared.Checked.{Checked}
 use Rattle.theory.specs.declared.Checked.the-variants.{Accepted, Refused}
-use Rattle.theory.specs.Bounded.{digit}
 use Rattle.theory.specs.Table.{Table, mirrorTable, cellsOf, composition, synthesis, controller, keptCount, stepCount, endCount}
 use Rattle.theory.specs.Checks.{first, refuse, uncovered, eachTable, synthesisChecks}
 use Rattle.theory.specs.Demand.{Premises}
@@ -20,6 +19,7 @@ use Rattle.theory.proofs.Checks.{first-part, first-refused, first-accepted, bot
 use Rattle.theory.proofs.Controller.{mirror-valid}
 use Rattle.theory.proofs.Tests.{or-right}
 use Rattle.theory.proofs.Verdicts as verdicts
+use Rattle.counts.proofs.Flags.{kept-le}
 use Rattle.text.specs.declared.Spelling.the-variants.{Folded}
 use Rattle.text.specs.Reading.{Reading, Joint, both, neither, readBoth, tableRead}
 use Rattle.text.specs.Writing.{decimal, tabbed, printed}
@@ -44,15 +44,6 @@ pub record Small (a b : Table) : Type 0 where
   pub rounds : synthesis a b .rounds ≤ 1024
   pub steps : stepCount (controller a b) ≤ 32768
   pub ends : endCount (controller a b) ≤ 1024
-
-digit-small : (v : Bool) → digit v ≤ 1
-digit-small true = omega arith
-digit-small false = omega arith
-
-kept-le : (l : List ℕ) → keptCount l ≤ length l
-unfolding keptCount
-kept-le [] = omega arith
-kept-le (x ∷ l) = omega (arith, digit-small (eqb x 1), kept-le l)
 
 -- Of three tests the third alone applies.
 third : (x y z : Bool) (r₁ r₂ r₃ r₄ : Checked) → ¬ T x → ¬ T y → T z → cond x r₁ (cond y r₂ (cond z r₃ r₄)) ≡ r₃
