@@ -95,7 +95,6 @@ static void fit(const struct table *a, const struct table *b)
 {
     uint8_t flags[MOST_STATES * MOST_STATES] = {0};
     size_t pairs = a->states * b->states;
-    size_t kept = 0;
     size_t k;
     moqresam_fit_reply r = moqresam_fit(
         a->states, a->initial, a->inputs, a->outputs, a->cells, a->states * MOQRESAM_STATE_BYTES,
@@ -107,9 +106,7 @@ static void fit(const struct table *a, const struct table *b)
         printf("\n");
         return;
     }
-    for (k = 0; k < pairs; k++)
-        kept += flags[k] == 1;
-    printf("%s, rounds %zu, kept %zu of %zu:", r.compatible ? "yes" : "no", r.rounds, kept, pairs);
+    printf("%s, rounds %zu, kept %zu of %zu:", r.compatible ? "yes" : "no", r.rounds, moqresam_count_kept(flags, pairs), pairs);
     for (k = 0; k < pairs; k++)
         if (flags[k] == 1)
             printf(" (%zu,%zu)", k / b->states, k % b->states);

@@ -1,5 +1,6 @@
 /*
- * Moqresam from C: whether two startup tables fit, whether one refines the other, and what the follower of a table does at a signal.
+ * Moqresam from C: whether two startup tables fit and how many pairs are kept, whether one refines the other, and what the follower of a table
+ * does at a signal.
  *
  * A table is an interface automaton: `states` states numbered from 0, of which `initial` is the first; its inputs and outputs, each a set of the
  * signals 0 to 31 (signal s is in the set if bit s is 1); and its cells, 32 for each state in state order. The cell at state * 32 + signal is
@@ -12,7 +13,7 @@
  * that a call writes to does not overlap one that it reads; a follower is not NULL.
  *
  * Nothing is allocated and no state is kept, so calls may run at the same time on different buffers. Fit and refine want 1.2 MB of stack at
- * most, and 0.6 MB where they are refused; follow wants less than 1 KB. The archive is for x86-64, and calls memset alone.
+ * most, and 0.6 MB where they are refused; count_kept and follow want less than 1 KB. The archive is for x86-64, and calls memset alone.
  */
 #ifndef MOQRESAM_H
 #define MOQRESAM_H
@@ -25,8 +26,11 @@
 extern "C" {
 #endif
 
-/* The version of the calls: the replies of the base, without a place, were version 1; a change of any reply or argument raises it by one. */
-#define MOQRESAM_VERSION 2
+/*
+ * The version of the calls: 1 was the base, whose replies had no place; 2 brought the place; 3 brings moqresam_count_kept. A change of any reply or
+ * argument, or a new call, raises it by one.
+ */
+#define MOQRESAM_VERSION 3
 
 /* The cell without a step; the signals, and so the cells, of a state; the bytes of a cell, and of the cells of a state. */
 #define MOQRESAM_NO_STEP 65535u
@@ -92,6 +96,12 @@ moqresam_fit_reply moqresam_fit(
     size_t states_a, size_t initial_a, uint32_t inputs_a, uint32_t outputs_a, const uint8_t *cells_a, size_t cells_a_length,
     size_t states_b, size_t initial_b, uint32_t inputs_b, uint32_t outputs_b, const uint8_t *cells_b, size_t cells_b_length,
     uint8_t *flags, size_t flags_length);
+
+/*
+ * How many flags are 1, of any number of bytes; any other byte counts nothing. No check, no refusal: the kept pairs where the flags are those of an
+ * accepted fit.
+ */
+size_t moqresam_count_kept(const uint8_t *flags, size_t flags_length);
 
 /*
  * Refinement, whether the first table refines the second: checks 1 to 6 of each, 9, 10.

@@ -126,6 +126,45 @@ static void fit_refused(const char *what, struct table a, struct table b, size_t
     check(what, SAYS(r, wanted) && !r.compatible && r.rounds == 0 && holds(""));
 }
 
+/* ---- the count */
+
+/* Whether so many of the flags in the room, from `start` on, are counted as are wanted. */
+static bool counts(size_t start, size_t length, size_t wanted)
+{
+    return moqresam_count_kept(room + start, length) == wanted;
+}
+
+/* Every byte at every place of flags that fill two words and have a rest; the others are all 1, or none is. */
+static bool counts_every_byte(size_t length, uint8_t others)
+{
+    size_t place, same = others == 1 ? length - 1 : 0;
+    unsigned byte;
+
+    memset(room, others, length);
+    for (place = 0; place < length; place++) {
+        for (byte = 0; byte < 256; byte++) {
+            room[place] = (uint8_t)byte;
+            if (!counts(0, length, same + (byte == 1)))
+                return false;
+        }
+        room[place] = others;
+    }
+    return true;
+}
+
+/* Every length up to three words, from every start: all around are bytes of 1, and none of them is counted. */
+static bool counts_every_length(void)
+{
+    size_t start, length;
+
+    memset(room, 1, sizeof room);
+    for (start = 0; start < 8; start++)
+        for (length = 0; length <= 24; length++)
+            if (!counts(start, length, length))
+                return false;
+    return true;
+}
+
 /* ---- refinement */
 
 static moqresam_refine_reply refine(struct table a, struct table b, size_t length)
@@ -343,6 +382,23 @@ static void test_fit(void)
     check("no flags lent, no pair", moqresam_fit(0, 0, 0, 0, NULL, 0, 0, 0, 0, 0, NULL, 0, NULL, 0).number == 1);
 }
 
+static void test_count(void)
+{
+    static const uint8_t flags[] = {1, 0, 1, 255, 2, 3, 129, 1, 1};
+    static uint8_t many[1048583];
+
+    check("no flags, NULL", moqresam_count_kept(NULL, 0) == 0);
+    check("ones alone", moqresam_count_kept(flags, sizeof flags) == 4);
+    check("ones alone, of seven", moqresam_count_kept(flags, 7) == 2);
+    check("every byte, others 0", counts_every_byte(21, 0));
+    check("every byte, others 1", counts_every_byte(21, 1));
+    check("every byte, others 255", counts_every_byte(21, 255));
+    check("every length", counts_every_length());
+    memset(many, 1, sizeof many);
+    check("many flags", moqresam_count_kept(many, sizeof many) == sizeof many);
+    check("flags of a fit", fit(ref(), hasty(), 9).number == 0 && counts(GUARD, 9, 4));
+}
+
 static void test_refine(void)
 {
     struct table ref21 = step(ref(), 2, POWER, 1);
@@ -435,6 +491,7 @@ int main(void)
     shape_faults("refine", refine_refused);
     cell_faults("refine", refine_refused);
     test_fit();
+    test_count();
     test_refine();
     test_follow();
     test_startup();

@@ -80,6 +80,14 @@ pub extern "C" fn harness_count_kept(flags: &[u8]) -> usize
     counts::count_kept(flags)
 }
 
+// The same one by one, for the benchmark to compare with.
+#[no_mangle]
+pub extern "C" fn harness_count_singly(flags: &[u8]) -> usize
+    ensures { λ r. ⌜ r ≡ keptCount (now (flags .entry)) ⌝ }
+{
+    counts::count_singly(flags)
+}
+
 // How many cells hold a step.
 #[no_mangle]
 pub extern "C" fn harness_count_steps(states: usize, cells: &[u16]) -> usize

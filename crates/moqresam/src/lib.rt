@@ -1,7 +1,8 @@
-// The C boundary (document 01, "The parts we ship"): fit, refinement and follower on numbers and byte buffers, where a cell is two bytes, low
-// byte first. include/moqresam.h says the same to C.
+// The C boundary (document 01, "The parts we ship"; 02, S-5): fit, the count of kept flags, refinement and follower on numbers and byte buffers,
+// where a cell is two bytes, low byte first. include/moqresam.h says the same to C.
 ghost use mathlib.Core.Path.{_≡_};
 ghost use lib.ListN.{length};
+ghost use Rattle.theory.specs.Table.{keptCount};
 ghost use Rattle.follower.specs.Replies.{followReply};
 ghost use Rattle.compatibility.specs.Replies.{compatibilityReply, compatibilityFlags};
 ghost use Rattle.refinement.specs.Replies.{refinementReply, refinementMarks};
@@ -155,6 +156,14 @@ pub extern "C" fn moqresam_fit(
         outputs: outputs_b,
     };
     fit_reply(packed_fit::fit(a, cells_a, b, cells_b, flags))
+}
+
+// How many flags are 1.
+#[no_mangle]
+pub extern "C" fn moqresam_count_kept(flags: &[u8]) -> usize
+    ensures { λ r. ⌜ r ≡ keptCount (now (flags .entry)) ⌝ }
+{
+    counts::count_kept(flags)
 }
 
 // Whether the first table refines the second; the marks are in the lent buffer.
