@@ -55,6 +55,7 @@ extern "C" {
     fn harness_follow(
         states: usize, initial: usize, inputs: u32, outputs: u32, cells: *const u16, length: usize, state: usize, signal: usize) -> Reply;
     fn harness_count_kept(flags: *const u8, length: usize) -> usize;
+    fn harness_count_singly(flags: *const u8, length: usize) -> usize;
     fn harness_count_steps(states: usize, cells: *const u16, length: usize) -> usize;
     fn harness_count_ends(states: usize, cells: *const u16, length: usize) -> usize;
     fn harness_read_alone(text: *const u8, length: usize, cells: *mut u16, cells_length: usize) -> Reply;
@@ -87,6 +88,7 @@ extern "C" {
         states_a: usize, initial_a: usize, inputs_a: u32, outputs_a: u32, cells_a: *const u8, length_a: usize,
         states_b: usize, initial_b: usize, inputs_b: u32, outputs_b: u32, cells_b: *const u8, length_b: usize,
         flags: *mut u8, length: usize) -> FitReply;
+    fn moqresam_count_kept(flags: *const u8, length: usize) -> usize;
     fn moqresam_refine(
         states_a: usize, initial_a: usize, inputs_a: u32, outputs_a: u32, cells_a: *const u8, length_a: usize,
         states_b: usize, initial_b: usize, inputs_b: u32, outputs_b: u32, cells_b: *const u8, length_b: usize,
@@ -135,6 +137,10 @@ call_on_two_tables!(synthesize, harness_synthesize, cells: u16, flags: u8);
 
 pub fn count_kept(flags: &[u8]) -> usize {
     unsafe { harness_count_kept(flags.as_ptr(), flags.len()) }
+}
+
+pub fn count_singly(flags: &[u8]) -> usize {
+    unsafe { harness_count_singly(flags.as_ptr(), flags.len()) }
 }
 
 pub fn count_steps(states: usize, cells: &[u16]) -> usize {
@@ -243,6 +249,10 @@ pub fn c_follow_record(t: &Table, bytes: &[u8], state: &mut usize, signal: usize
         unsafe { moqresam_follow_record(t.states, t.initial, t.inputs, t.outputs, start(bytes), bytes.len(), &mut record, signal) };
     *state = record.state;
     follower_reply(reply)
+}
+
+pub fn c_count_kept(flags: &[u8]) -> usize {
+    unsafe { moqresam_count_kept(start(flags), flags.len()) }
 }
 
 fn follower_reply(FollowReply { number, table, moved: yes, state: value, placed, cell_state, cell_signal }: FollowReply) -> Reply {

@@ -1,4 +1,4 @@
-//! An independent implementation of document 01 and of S-2, S-3 and S-9 of document 02, written from their words and by the plainest means, and
+//! An independent implementation of document 01 and of S-2, S-3, S-5 and S-9 of document 02, written from their words and by the plainest means, and
 //! comparisons of the archives and the programs with it. The rules are in `table` to `synth`, the calls with their refusals in `calls`, `text`,
 //! `writer`, `program` and `lister`; what is tried comes from `random_tables` and `random_texts`, and `places` says which bad cells have to be among
 //! it, `orders` which steps of one state, `spellings` which names; the archives stand behind `archive`.
@@ -12,6 +12,7 @@
 //!     reference tables SEED COUNT [CASE]                             the calls on tables
 //!     reference texts SEED COUNT [CASE]                              reading, lookup, listing of clashes, writing, report
 //!     reference demand3 SEED COUNT [CASE]                            all small sequencers
+//!     reference flags SEED COUNT [CASE]                              counts of kept flags
 //!     reference substitution SEED COUNT [CASE]                       a part in the place of the one that it refines: the archive alone
 //!     reference program SEED COUNT FOLDER SEQUENCER CLASHES [CASE]   the two programs, run in a scratch folder
 //!
@@ -20,6 +21,7 @@
 mod archive;
 mod bytes;
 mod calls;
+mod compare_flags;
 mod compare_readings;
 mod compare_tables;
 mod compare_texts;
@@ -57,7 +59,7 @@ fn main() -> ExitCode {
         Some(false) => ExitCode::FAILURE,
         None => {
             eprintln!("usage: reference selftest CASES CLASHES");
-            eprintln!("       reference tables|texts|demand3|substitution SEED COUNT [CASE]");
+            eprintln!("       reference tables|texts|demand3|flags|substitution SEED COUNT [CASE]");
             eprintln!("       reference program SEED COUNT FOLDER SEQUENCER CLASHES [CASE]");
             ExitCode::from(2)
         }
@@ -76,6 +78,7 @@ fn run(arguments: &[&str]) -> Option<bool> {
         ("tables", case) => Some(compare_tables::run(seed, count, one(case)?)),
         ("texts", case) => Some(compare_texts::run(seed, count, one(case)?)),
         ("demand3", case) => Some(demand3::run(seed, count, one(case)?)),
+        ("flags", case) => Some(compare_flags::run(seed, count, one(case)?)),
         ("substitution", case) => Some(substitution::run(seed, count, one(case)?)),
         ("program", [folder, sequencer, clashes, case @ ..]) => {
             let programs = [Path::new(sequencer), Path::new(clashes)];
