@@ -47,6 +47,13 @@ impl Random {
     }
 }
 
+/// Flags, half of them 1, the others any byte.
+pub fn flags(seed: u64, length: usize) -> Vec<u8> {
+    let mut r = Random(seed);
+    let flag = |_| if r.below(2) == 0 { 1 } else { r.next() as u8 };
+    (0..length).map(flag).collect()
+}
+
 /// Two tables whose pairs form one chain with an illegal pair at its end, so that every round drops one pair. The second counts by signal 0,
 /// and by signal 1, which it sends at its last state, it starts again and the first moves on; the first does not take that at its own last.
 pub fn chain(na: usize, nb: usize) -> (Owned, Owned) {

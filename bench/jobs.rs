@@ -12,6 +12,9 @@ const VARIANTS: u64 = 16;
 
 const SIGNALS: usize = 1_000_000;
 
+/// How many flags are counted.
+const FLAGS: [usize; 5] = [7, 64, 1024, 4096, 1_048_576];
+
 /// How long texts are at most: those that are read and written, those of the archive reading, those of the lister.
 const LIMITS: [usize; 4] = [1024, 4096, 16384, 65536];
 const ARCHIVE_LIMITS: [usize; 2] = [4096, 65536];
@@ -27,6 +30,8 @@ pub enum Call {
     Archive,
     List,
     Write,
+    Count,
+    CountSingly,
     Follow,
 }
 
@@ -41,6 +46,7 @@ impl Call {
             Call::Archive => "archive",
             Call::List => "list",
             Call::Write => "write",
+            Call::Count | Call::CountSingly => "count",
             Call::Follow => "follow",
         }
     }
@@ -48,7 +54,7 @@ impl Call {
     /// What the size of an input counts.
     pub fn unit(self) -> &'static str {
         match self {
-            Call::Read | Call::Archive | Call::List | Call::Write => "bytes",
+            Call::Read | Call::Archive | Call::List | Call::Write | Call::Count | Call::CountSingly => "bytes",
             Call::Follow => "signals",
             Call::Judge => "states",
             _ => "pairs",
@@ -65,8 +71,8 @@ impl Call {
     }
 }
 
-/// One line of the figures: a call and its inputs. Calls take the pairs of tables in turn. A module's text, or signals, are in `bytes`, a plan's
-/// text is in `plan`; `listing` is what the lister prints of the two, and `room` says how many bytes a call on texts is lent.
+/// One line of the figures: a call and its inputs. Calls take the pairs of tables in turn. A module's text, signals or flags are in `bytes`, a
+/// plan's text is in `plan`; `listing` is what the lister prints of the two, and `room` says how many bytes a call on texts is lent.
 pub struct Job {
     pub call: Call,
     pub family: String,
@@ -102,11 +108,16 @@ impl Job {
         job
     }
 
-    pub fn of_signals(call: Call, family: &str, table: Owned, signals: Vec<u8>) -> Job {
+    pub fn of_bytes(call: Call, family: &str, table: Owned, bytes: Vec<u8>) -> Job {
         let mut job = Job::of_table(call, family, table);
-        job.size = signals.len();
-        job.bytes = signals;
+        job.size = bytes.len();
+        job.bytes = bytes;
         job
+    }
+
+    /// The count takes no table.
+    pub fn of_flags(call: Call, family: &str, flags: Vec<u8>) -> Job {
+        Job::of_bytes(call, family, Owned::new(1, 0, 0), flags)
     }
 
     pub fn of_texts(call: Call, family: &str, texts: Texts) -> Job {
@@ -207,12 +218,20 @@ fn clashes() -> Vec<Job> {
     spellings.into_iter().chain(capitals).collect()
 }
 
+/// Flags counted eight at a time, and one by one as before.
+fn counts() -> Vec<Job> {
+    let job = |call, family, length: usize| Job::of_flags(call, family, inputs::flags(SEED + length as u64, length));
+    let words = FLAGS.map(|length| job(Call::Count, "by eights", length));
+    let singly = FLAGS.map(|length| job(Call::CountSingly, "one by one", length));
+    words.into_iter().chain(singly).collect()
+}
+
 fn follows() -> Vec<Job> {
     let job = |states| {
         let mut r = Random(SEED);
         let signals = (0..SIGNALS).map(|_| r.below(32) as u8).collect();
         let table = inputs::followed(SEED, states);
-        Job::of_signals(Call::Follow, &format!("{states} states"), table, signals)
+        Job::of_bytes(Call::Follow, &format!("{states} states"), table, signals)
     };
     [64, 4096].map(job).into()
 }
@@ -228,6 +247,7 @@ pub fn all(part: &str) -> Vec<Job> {
     jobs.extend(texts(Call::List, &LIST_LIMITS));
     jobs.extend(clashes());
     jobs.extend(texts(Call::Write, &LIMITS));
+    jobs.extend(counts());
     jobs.extend(follows());
     jobs.retain(|j| j.title().contains(part));
     jobs

@@ -7,6 +7,13 @@ pub trait Library {
     fn fit(&mut self, a: &Table, b: &Table, flags: &mut [u8]) -> Reply;
     fn refine(&mut self, a: &Table, b: &Table, marks: &mut [u8]) -> Reply;
     fn synthesize(&mut self, a: &Table, b: &Table, cells: &mut [u16], flags: &mut [u8]) -> Reply;
+    fn count_kept(&mut self, flags: &[u8]) -> usize;
+
+    /// The loop of before, which counts one by one; the baselines have no other.
+    fn count_singly(&mut self, flags: &[u8]) -> usize {
+        self.count_kept(flags)
+    }
+
     fn follow(&mut self, t: &Table, state: usize, signal: usize) -> Reply;
     fn read_together(&mut self, m: &[u8], p: &[u8], cm: &mut [u16], cp: &mut [u16]) -> Reply;
     fn read_archive_together(&mut self, m: &[u8], p: &[u8], cm: &mut [u16], cp: &mut [u16]) -> Reply;
@@ -74,6 +81,8 @@ unsafe extern "C" {
         sa: usize, ia: usize, ina: u32, outa: u32, ca: *const u16, na: usize,
         sb: usize, ib: usize, inb: u32, outb: u32, cb: *const u16, nb: usize,
         cells: *mut u16, m: usize, flags: *mut u8, n: usize) -> Reply;
+    fn harness_count_kept(flags: *const u8, n: usize) -> usize;
+    fn harness_count_singly(flags: *const u8, n: usize) -> usize;
     fn harness_follow(
         s: usize, i: usize, inputs: u32, outputs: u32, c: *const u16, n: usize, state: usize, signal: usize) -> Reply;
     fn harness_read_together(
@@ -91,6 +100,7 @@ unsafe extern "C" {
     fn plain_fit(a: *const CTable, b: *const CTable, flags: *mut u8, n: usize) -> Reply;
     fn plain_refine(a: *const CTable, b: *const CTable, marks: *mut u8, n: usize) -> Reply;
     fn plain_synthesize(a: *const CTable, b: *const CTable, cells: *mut u16, m: usize, flags: *mut u8, n: usize) -> Reply;
+    fn plain_count_kept(flags: *const u8, n: usize) -> usize;
     fn plain_follow(t: *const CTable, state: usize, signal: usize) -> Reply;
     fn plain_read_together(m: Part, p: Part, cm: Cells, cp: Cells) -> Reply;
     fn plain_read_archive_together(m: Part, p: Part, cm: Cells, cp: Cells) -> Reply;
@@ -133,6 +143,14 @@ impl Library for Archive {
                 cells.as_mut_ptr(), cells.len(), flags.as_mut_ptr(), flags.len(),
             )
         }
+    }
+
+    fn count_kept(&mut self, flags: &[u8]) -> usize {
+        unsafe { harness_count_kept(flags.as_ptr(), flags.len()) }
+    }
+
+    fn count_singly(&mut self, flags: &[u8]) -> usize {
+        unsafe { harness_count_singly(flags.as_ptr(), flags.len()) }
     }
 
     fn follow(&mut self, t: &Table, state: usize, signal: usize) -> Reply {
@@ -193,6 +211,10 @@ impl Library for PlainC {
         unsafe { plain_synthesize(&c_table(a), &c_table(b), cells.as_mut_ptr(), m, flags.as_mut_ptr(), n) }
     }
 
+    fn count_kept(&mut self, flags: &[u8]) -> usize {
+        unsafe { plain_count_kept(flags.as_ptr(), flags.len()) }
+    }
+
     fn follow(&mut self, t: &Table, state: usize, signal: usize) -> Reply {
         unsafe { plain_follow(&c_table(t), state, signal) }
     }
@@ -230,6 +252,10 @@ impl Library for PlainRust {
 
     fn synthesize(&mut self, a: &Table, b: &Table, cells: &mut [u16], flags: &mut [u8]) -> Reply {
         self.0.synthesize(*a, *b, cells, flags)
+    }
+
+    fn count_kept(&mut self, flags: &[u8]) -> usize {
+        plain::count_kept(flags)
     }
 
     fn follow(&mut self, t: &Table, state: usize, signal: usize) -> Reply {

@@ -48,7 +48,7 @@ fn buffers(job: &Job) -> Buffers {
         Call::Synthesize => (job.size * 32, 0, job.size),
         Call::Read | Call::Archive | Call::List => (a.cells.len(), b.cells.len(), job.room),
         Call::Write => (0, 0, job.room),
-        Call::Judge | Call::Follow => (0, 0, 0),
+        Call::Judge | Call::Count | Call::CountSingly | Call::Follow => (0, 0, 0),
     };
     Buffers { cells: vec![0x707; cells], others: vec![0x707; others], bytes: vec![7; bytes] }
 }
@@ -64,6 +64,23 @@ fn follow_all(l: &mut dyn Library, job: &Job) -> Reply {
         moves += usize::from(reply.yes);
     }
     Reply { value: state, line: moves, ..Reply::default() }
+}
+
+/// How many counts one run of a job makes: of few flags so many that what stands around a count does not matter.
+fn counts_in_run(job: &Job) -> usize {
+    match job.call {
+        Call::Count | Call::CountSingly => 1 + 4096 / job.size.max(1),
+        _ => 1,
+    }
+}
+
+/// The count, as often as one run makes it.
+fn count_all(job: &Job, mut count: impl FnMut(&[u8]) -> usize) -> Reply {
+    let mut kept = 0;
+    for _ in 0..counts_in_run(job) {
+        kept = count(black_box(&job.bytes));
+    }
+    Reply { value: kept, ..Reply::default() }
 }
 
 /// The lister, which returns the length of what it prints.
@@ -86,6 +103,8 @@ fn run(l: &mut dyn Library, r: &Ready, i: usize, to: &mut Buffers) -> Reply {
         Call::Archive => l.read_archive_together(&job.bytes, &job.plan, &mut to.cells, &mut to.others),
         Call::List => list(l, job, to),
         Call::Write => l.write(&a, b"startup", &r.names, &mut to.bytes),
+        Call::Count => count_all(job, |flags| l.count_kept(flags)),
+        Call::CountSingly => count_all(job, |flags| l.count_singly(flags)),
         Call::Follow => follow_all(l, job),
     }
 }
@@ -189,7 +208,7 @@ fn measure(ls: &mut Libraries, r: &Ready) -> [f64; 3] {
     for _ in 0..BATCHES {
         for i in 0..3 {
             let taken = time(ls[i].as_mut(), r, &mut to, calls[i]);
-            least[i] = least[i].min(taken.as_secs_f64() * 1e6 / calls[i] as f64);
+            least[i] = least[i].min(taken.as_secs_f64() * 1e6 / (calls[i] * counts_in_run(r.job)) as f64);
         }
     }
     least

@@ -1,6 +1,6 @@
 //! Prints the figures, the growth and the goals, as Markdown.
 
-use crate::jobs::Job;
+use crate::jobs::{Call, Job};
 
 /// A job with the microseconds of one call to each library; the number says why the call is refused, or is 0.
 pub struct Row {
@@ -11,9 +11,11 @@ pub struct Row {
     pub c: f64,
 }
 
-/// Largest ratio to the faster baseline, and largest growth of the time over that of the pairs.
+/// Largest ratio to the faster baseline, largest growth of the time over that of the pairs, largest part that a count by eights takes of the time of
+/// the loop of before.
 const RATIO: f64 = 1.1;
 const GROWTH: f64 = 1.25;
+const PART: f64 = 0.5;
 
 impl Row {
     fn baseline(&self) -> f64 {
@@ -29,6 +31,11 @@ impl Row {
     }
 }
 
+/// Microseconds, of a short call with the digits that it has.
+fn micros(t: f64) -> String {
+    if t < 0.1 { format!("{t:.4}") } else { format!("{t:.2}") }
+}
+
 fn print_figures(rows: &[Row]) {
     println!("| call | input | size | archive us | Rust us | C us | ratio |");
     println!("|---|---|--:|--:|--:|--:|--:|");
@@ -36,7 +43,7 @@ fn print_figures(rows: &[Row]) {
         let (job, call) = (&r.job, r.job.call);
         let refused = if r.number == 0 { String::new() } else { format!(" (refused: {})", r.number) };
         print!("| {} | {}{refused} | {} {} ", call.name(), job.input, job.size, call.unit());
-        println!("| {:.2} | {:.2} | {:.2} | {:.2} |", r.archive, r.rust, r.c, r.ratio());
+        println!("| {} | {} | {} | {:.2} |", micros(r.archive), micros(r.rust), micros(r.c), r.ratio());
     }
 }
 
@@ -98,6 +105,15 @@ fn print_small_goal(goal: &str, mut rows: Vec<&Row>) {
     print_goal(goal, all, &rows.iter().map(line).collect::<Vec<_>>());
 }
 
+/// The count by eights beside the loop of before, on flags of one number.
+fn print_count_goal(goal: &str, rows: &[Row]) {
+    let of = |call| rows.iter().filter(move |r| r.job.call == call && r.job.size >= 1024);
+    let part = |r: &Row| of(Call::CountSingly).find(|s| s.job.size == r.job.size).map(|s| r.archive / s.archive);
+    let parts: Vec<(&Row, f64)> = of(Call::Count).filter_map(|r| Some((r, part(r)?))).collect();
+    let missed = parts.iter().filter(|(_, part)| *part > PART);
+    print_goal(goal, parts.len(), &missed.map(|(r, part)| format!("{}: {part:.2}", r.job.title())).collect::<Vec<_>>());
+}
+
 fn print_goals(rows: &[Row]) {
     let pairs = || rows.iter().filter(|r| r.is_pairs());
     let others = rows.iter().filter(|r| r.job.call.unit() != "pairs");
@@ -107,7 +123,8 @@ fn print_goals(rows: &[Row]) {
     print_ratio_goal("(a) from 256 pairs up at most 1.1 times the faster baseline", large);
     print_growth_goal("(b) linear: time grows at most 1.25 times as much as the pairs", steps.collect());
     print_small_goal("(c) up to 64 pairs under 10 us", small);
-    print_ratio_goal("(d) judging, texts and the follower at most 1.1 times the faster baseline", others.collect());
+    print_ratio_goal("(d) judging, texts, counts and the follower at most 1.1 times the faster baseline", others.collect());
+    print_count_goal("(e) from 1,024 flags up at most half the time of the loop of before", rows);
 }
 
 pub fn print(rows: &[Row]) {

@@ -8,6 +8,9 @@ pub const NAME: &str = "trial";
 
 const TRIALS: usize = 35_000;
 
+/// Every number of flags up to here is counted, from each of as many seeds.
+const FLAGS: usize = 100;
+
 /// A set of four signals.
 fn set(r: &mut Random) -> u32 {
     r.below(16) as u32
@@ -143,6 +146,12 @@ fn write_trial(r: &mut Random) -> Job {
     job
 }
 
+/// Few flags, counted in both ways.
+fn count_trials(seed: u64) -> impl Iterator<Item = Job> {
+    let flags = (0..FLAGS * FLAGS).map(move |i| inputs::flags(seed + i as u64, i % FLAGS));
+    flags.flat_map(|flags| [Call::Count, Call::CountSingly].map(|call| Job::of_flags(call, NAME, flags.clone())))
+}
+
 /// The first pair count that is too large.
 fn too_many_pairs() -> Job {
     Job::of_pairs(Call::Fit, NAME, vec![inputs::chain(64, 65)])
@@ -159,5 +168,5 @@ pub fn all(seed: u64) -> impl Iterator<Item = Job> {
         5 => text_trial(&mut r, Call::List),
         _ => write_trial(&mut r),
     });
-    random.chain(std::iter::once_with(too_many_pairs))
+    random.chain(count_trials(seed)).chain(std::iter::once_with(too_many_pairs))
 }
