@@ -8,7 +8,7 @@ use native.Mathlib.Numerals.{add-one}
 use native.Mathlib.Omega.{arith}
 use lib.Bits.{bitOr}
 use lib.Dec.{eqb, leb}
-use lib.ListN.{length, take, drop, getD, length-drop, drop-of-length-le}
+use lib.ListN.{length, take, drop, getD, drop-of-length-le}
 use lib.Seq.{drop-cons, take-all}
 use borrow.Author.Tests.{eq-eqb, ne-eqb, le-leb, lt-leb, not-false}
 use Rattle.text.specs.declared.Spelling.{Spelling}
@@ -147,10 +147,6 @@ before-all s at h = sym (take-all at s h)
 
 pub before-some : (s : List ℕ) (at : ℕ) → take (at - 0) s ≡ take at s
 before-some s at = let z : at - 0 ≡ at = omega arith in rw z
-
--- A part to the end is what is dropped.
-pub after-rest : (s : List ℕ) (at : ℕ) → take (length s - at) (drop at s) ≡ drop at s
-after-rest s at = take-all (length s - at) (drop at s) (omega (arith, length-drop at s))
 
 pub after-none : (s r : List ℕ) (at : ℕ) → length s < at → length r ≤ 0 → r ≡ drop at s
 after-none s [] at h k = sym (drop-of-length-le s {i = at} (omega arith))
