@@ -31,7 +31,7 @@ impl Row {
     }
 }
 
-/// Microseconds, of a short call with the digits that it has.
+/// Microseconds with two decimals, below 0.1 with four.
 fn micros(t: f64) -> String {
     if t < 0.1 { format!("{t:.4}") } else { format!("{t:.2}") }
 }
@@ -105,13 +105,14 @@ fn print_small_goal(goal: &str, mut rows: Vec<&Row>) {
     print_goal(goal, all, &rows.iter().map(line).collect::<Vec<_>>());
 }
 
-/// The count by eights beside the loop of before, on flags of one number.
+/// The count by eights beside the loop of before, on as many flags, and beside the baselines.
 fn print_count_goal(goal: &str, rows: &[Row]) {
     let of = |call| rows.iter().filter(move |r| r.job.call == call && r.job.size >= 1024);
     let part = |r: &Row| of(Call::CountSingly).find(|s| s.job.size == r.job.size).map(|s| r.archive / s.archive);
     let parts: Vec<(&Row, f64)> = of(Call::Count).filter_map(|r| Some((r, part(r)?))).collect();
-    let missed = parts.iter().filter(|(_, part)| *part > PART);
-    print_goal(goal, parts.len(), &missed.map(|(r, part)| format!("{}: {part:.2}", r.job.title())).collect::<Vec<_>>());
+    let missed = parts.iter().filter(|(r, part)| *part > PART || r.ratio() > 1.0);
+    let line = |(r, part): &(&Row, f64)| format!("{}: {part:.2} of the loop of before, {:.2} of the faster baseline", r.job.title(), r.ratio());
+    print_goal(goal, parts.len(), &missed.map(line).collect::<Vec<_>>());
 }
 
 fn print_goals(rows: &[Row]) {
@@ -124,7 +125,7 @@ fn print_goals(rows: &[Row]) {
     print_growth_goal("(b) linear: time grows at most 1.25 times as much as the pairs", steps.collect());
     print_small_goal("(c) up to 64 pairs under 10 us", small);
     print_ratio_goal("(d) judging, texts, counts and the follower at most 1.1 times the faster baseline", others.collect());
-    print_count_goal("(e) from 1,024 flags up at most half the time of the loop of before", rows);
+    print_count_goal("(e) from 1,024 flags up at most half the time of the loop of before, and no more than either baseline", rows);
 }
 
 pub fn print(rows: &[Row]) {

@@ -8,7 +8,7 @@ pub const NAME: &str = "trial";
 
 const TRIALS: usize = 35_000;
 
-/// Every number of flags up to here is counted, from each of as many seeds.
+/// Every number of flags below this one is counted, from each of as many seeds.
 const FLAGS: usize = 100;
 
 /// A set of four signals.

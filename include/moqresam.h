@@ -98,8 +98,8 @@ moqresam_fit_reply moqresam_fit(
     uint8_t *flags, size_t flags_length);
 
 /*
- * How many flags are 1, of any number of bytes; any other byte counts nothing. No check, no refusal: the kept pairs where the flags are those of an
- * accepted fit.
+ * Count: how many of the bytes are 1; any other byte counts nothing. Any length, no check, no refusal. Of the flags of an accepted fit it is the number
+ * of kept pairs, of the marks of an accepted refinement the number of related ones.
  */
 size_t moqresam_count_kept(const uint8_t *flags, size_t flags_length);
 

@@ -128,13 +128,16 @@ static void fit_refused(const char *what, struct table a, struct table b, size_t
 
 /* ---- the count */
 
-/* Whether so many of the flags in the room, from `start` on, are counted as are wanted. */
+/* Whether the count of `length` bytes from `start` is `wanted`. */
 static bool counts(size_t start, size_t length, size_t wanted)
 {
     return moqresam_count_kept(room + start, length) == wanted;
 }
 
-/* Every byte at every place of flags that fill two words and have a rest; the others are all 1, or none is. */
+/*
+ * Every byte at every place; the others are all 1, or none is. Words are taken four at a time, then one by one, so few flags would not reach all of the
+ * code.
+ */
 static bool counts_every_byte(size_t length, uint8_t others)
 {
     size_t place, same = others == 1 ? length - 1 : 0;
@@ -152,14 +155,14 @@ static bool counts_every_byte(size_t length, uint8_t others)
     return true;
 }
 
-/* Every length up to three words, from every start: all around are bytes of 1, and none of them is counted. */
+/* Every length that the flags of a fit can have, and some more, from every start: all around are bytes of 1, and none of them is counted. */
 static bool counts_every_length(void)
 {
     size_t start, length;
 
     memset(room, 1, sizeof room);
     for (start = 0; start < 8; start++)
-        for (length = 0; length <= 24; length++)
+        for (length = 0; length <= MOQRESAM_MAX_PAIRS + 8; length++)
             if (!counts(start, length, length))
                 return false;
     return true;
@@ -390,9 +393,9 @@ static void test_count(void)
     check("no flags, NULL", moqresam_count_kept(NULL, 0) == 0);
     check("ones alone", moqresam_count_kept(flags, sizeof flags) == 4);
     check("ones alone, of seven", moqresam_count_kept(flags, 7) == 2);
-    check("every byte, others 0", counts_every_byte(21, 0));
-    check("every byte, others 1", counts_every_byte(21, 1));
-    check("every byte, others 255", counts_every_byte(21, 255));
+    check("every byte, others 0", counts_every_byte(77, 0));
+    check("every byte, others 1", counts_every_byte(77, 1));
+    check("every byte, others 255", counts_every_byte(77, 255));
     check("every length", counts_every_length());
     memset(many, 1, sizeof many);
     check("many flags", moqresam_count_kept(many, sizeof many) == sizeof many);

@@ -80,7 +80,7 @@ pub extern "C" fn harness_count_kept(flags: &[u8]) -> usize
     counts::count_kept(flags)
 }
 
-// The same one by one, for the benchmark to compare with.
+// How many bytes are 1, counted one by one, for the benchmark to compare with.
 #[no_mangle]
 pub extern "C" fn harness_count_singly(flags: &[u8]) -> usize
     ensures { λ r. ⌜ r ≡ keptCount (now (flags .entry)) ⌝ }

@@ -2,7 +2,7 @@ use Prim.Native.Nat.{_-_}
 use native.Mathlib.Omega.{arith}
 use lib.ListN.{length, drop, length-take}
 use denote.Ref.{now, ptr}
-use Rattle.theory.proofs.Filled.{part-rest}
+use Rattle.theory.proofs.Filled.{part-to-end}
 use Rattle.scan.proofs.Bytes.{after-none, after-place}
 use borrow.Author.Needs.{needs}
 use Rattle.scan.proofs.after.Statement.{statement}
@@ -34,7 +34,7 @@ part-result-end-2 c = search needs
 
 returns-2 : tie.Need-returns-2
 returns-2 c =
-    let a = c .before .before .args in (part-rest (now (a .s)) (a .at), after-place (ptr (a .s)) (now (a .s)) (a .at) (a .at) (omega arith))
+    let a = c .before .before .args in (part-to-end (now (a .s)) (a .at), after-place (ptr (a .s)) (now (a .s)) (a .at) (a .at) (omega arith))
 
 pub after-spec : {M : Type 1} → statement M
 after-spec =
