@@ -1,5 +1,4 @@
 pub mod Counts
 pub mod Checks
 pub mod Replies
-pub mod Cleared
 pub mod Meaning

@@ -1,5 +1,3 @@
-pub mod Counts
-pub mod Fronts
 pub mod Walks
 pub mod Turns
 pub mod Seeds

@@ -11,6 +11,7 @@ use lib.Pow.{pow-mono}
 use borrow.Author.Tests.{ne-eqb}
 use Rattle.theory.specs.Bounded.{count, digit}
 use Rattle.theory.specs.Sets.{has}
+use Rattle.theory.proofs.Bounded.{count-cong}
 use Rattle.theory.proofs.Lowest.{Lowest}
 use Rattle.theory.proofs.Sets.{low as low-digit, has-suc}
 
@@ -87,16 +88,12 @@ unfolding count
 count-suc zero f = omega arith
 count-suc (suc w) f = omega (arith, count-suc w f)
 
-count-same : (w : ℕ) (f g : ℕ → Bool) → ((a : ℕ) → f a ≡ g a) → count w f ≡ count w g
-unfolding count
-count-same zero f g e = refl
-count-same (suc w) f g e = ap₂ _+_ (count-same w f g e) (ap digit (e w))
-
 pub ones-count : (w s : ℕ) → s < 2 ^ w → ones s ≡ count w (has s)
 unfolding count ones
 ones-count zero s h = let z : s ≡ 0 = omega arith in rw z
 ones-count (suc w) s h =
-    ones-step s ∙ ap₂ _+_ (low-digit s ∙ ap digit (sym (has-zero s))) (ones-count w (s / 2) (omega (arith, pow-suc 2 w)) ∙ count-same w (has (s / 2)) (λ a. has s (suc a)) (λ a. sym (has-suc s a)))
+    ones-step s ∙ ap₂ _+_ (low-digit s ∙ ap digit (sym (has-zero s)))
+    (ones-count w (s / 2) (omega (arith, pow-suc 2 w)) ∙ count-cong w (has (s / 2)) (λ a. has s (suc a)) (λ a l. sym (has-suc s a)))
     ∙ sym (count-suc w (has s))
 
 -- Every member is below the digits that are no leading zeros.

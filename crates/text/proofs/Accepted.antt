@@ -10,7 +10,7 @@ use native.Mathlib.Omega.{arith}
 use native.Mathlib.Decide.{decLt, ℕ-discrete}
 use lib.Arith.{digits-lt, digits-mod}
 use lib.Dec.{T, eqb, ltb, eqb→eq, ltb→lt, eqb-refl, T-not}
-use lib.ListN.{length, getD, take, replicate, length-append, length-set, length-replicate, getD-replicate, List·getD-eq-default}
+use lib.ListN.{length, getD, take, length-append, length-set, length-replicate}
 use lib.Seq.{getD-set-same, getD-set-other, getD-take, length-take-le}
 use borrow.Author.Tests.{lt-ltb, le-ltb}
 use Rattle.theory.specs.declared.Automaton.{Automaton}
@@ -19,6 +19,7 @@ use Rattle.theory.specs.Checks.{declared}
 use Rattle.theory.specs.Valid.{Valid}
 use Rattle.theory.proofs.Tests.{or-cases, or-left, or-right}
 use Rattle.theory.proofs.Options.{when-of}
+use Rattle.theory.proofs.Filled.{all-same}
 use Rattle.theory.proofs.Table.{table-narrow}
 use Rattle.text.specs.declared.Place.the-variants.{Head, Declarations}
 use Rattle.text.specs.declared.Role.{Role}
@@ -68,12 +69,6 @@ pub record Sound (l : List Signal) (room : ℕ) (st : Reading) : Type 0 where
   pub numbered : (a : ℕ) → T (declares st a) → a < length (st .signals)
   pub own : (a : ℕ) → length l ≤ a → a < length (st .signals) → T (declares st a)
 
-pub getD-blank : (room k : ℕ) → _≡_ {A = ℕ} (getD (replicate room 65535) k 65535) 65535
-getD-blank room k = elim (decLt k room) [
-  | yes h ↦ getD-replicate room k 65535 65535 h
-  | no g ↦ List·getD-eq-default (replicate room 65535) 65535 (omega (arith, length-replicate {A = ℕ} room 65535))
-]
-
 module _ (l : List Signal) (room : ℕ) where
   started-sound : (states initial : ℕ) (st : Reading) → length l ≤ 32 → started (fresh l room) states initial ≡ next st → Sound l room st
   started-sound states initial st few e =
@@ -87,7 +82,7 @@ module _ (l : List Signal) (room : ℕ) where
         lists = record { inputs = omega arith; outputs = omega arith; disjoint = λ a t. absurd (rw (member-none a) at t) };
         fits = omega (arith, u .room);
         size = size;
-        steps = λ k. inl (getD-blank room k);
+        steps = λ k. inl (all-same room k 65535);
         more = [];
         extends = sym (append-nil l);
         few-signals = few;

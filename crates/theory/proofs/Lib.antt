@@ -9,6 +9,7 @@ pub mod Departures
 pub mod Synthesis
 pub mod Closure
 pub mod Options
+pub mod Reachability
 pub mod Numbering
 pub mod Decided
 pub mod Demand
