@@ -41,6 +41,7 @@ run tables "$seed" "$((100000 * times))"
 run texts "$seed" "$((25000 * times))"
 run demand3 "$seed" "$((5000 * times))"
 run flags "$seed" "$((100000 * times))"
+run ends "$seed" "$((30000 * times))"
 run substitution "$seed" "$((30000 * times))"
 run program "$seed" "$((300 * times))" "$work/run" target/bin/sequencer target/bin/clashes
 

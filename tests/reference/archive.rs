@@ -57,7 +57,11 @@ extern "C" {
     fn harness_count_kept(flags: *const u8, length: usize) -> usize;
     fn harness_count_singly(flags: *const u8, length: usize) -> usize;
     fn harness_count_steps(states: usize, cells: *const u16, length: usize) -> usize;
-    fn harness_count_ends(states: usize, cells: *const u16, length: usize) -> usize;
+    fn harness_count_ends(
+        states: usize, initial: usize, inputs: u32, outputs: u32, cells: *const u16, cells_length: usize,
+        flags: *const u8, flags_length: usize) -> usize;
+    fn harness_mark_reached(
+        marks: *mut u8, marks_length: usize, initial: usize, sets: *const u32, sets_length: usize, cells: *const u16, cells_length: usize);
     fn harness_read_alone(text: *const u8, length: usize, cells: *mut u16, cells_length: usize) -> Reply;
     fn harness_read_archive_alone(text: *const u8, length: usize, cells: *mut u16, cells_length: usize) -> Reply;
     fn harness_read_together(
@@ -147,8 +151,12 @@ pub fn count_steps(states: usize, cells: &[u16]) -> usize {
     unsafe { harness_count_steps(states, cells.as_ptr(), cells.len()) }
 }
 
-pub fn count_ends(states: usize, cells: &[u16]) -> usize {
-    unsafe { harness_count_ends(states, cells.as_ptr(), cells.len()) }
+pub fn count_ends(t: &Table, flags: &[u8]) -> usize {
+    unsafe { harness_count_ends(t.states, t.initial, t.inputs, t.outputs, t.cells.as_ptr(), t.cells.len(), flags.as_ptr(), flags.len()) }
+}
+
+pub fn mark_reached(marks: &mut [u8], initial: usize, sets: &[u32], cells: &[u16]) {
+    unsafe { harness_mark_reached(marks.as_mut_ptr(), marks.len(), initial, sets.as_ptr(), sets.len(), cells.as_ptr(), cells.len()) }
 }
 
 pub fn read_alone(rule: Rule, text: &[u8], cells: &mut [u16]) -> Reply {

@@ -2,10 +2,11 @@
 
 use crate::fit::{compose, fit, Fit};
 use crate::product::product;
+use crate::reach::reached;
 use crate::refine::{marks, refines};
 use crate::reply::{Outcome, Reply};
 use crate::synth::{lists_refused, sequencer};
-use crate::table::{has, Fault, Table, MOST_PAIRS, NO_STEP, SIGNALS};
+use crate::table::{has, Fault, Table, MOST_PAIRS, MOST_STATES, NO_STEP, SIGNALS};
 
 pub fn judge(table: &Table) -> Outcome {
     accept(table, 1)?;
@@ -90,13 +91,37 @@ pub fn count_steps(states: usize, cells: &[u16]) -> usize {
     cells.iter().filter(|&&cell| holds_step(states, cell)).count()
 }
 
-/// States with no step out: of cells that no check has seen, whole rows with no step.
-pub fn count_ends(states: usize, cells: &[u16]) -> usize {
-    cells.chunks_exact(SIGNALS).filter(|row| count_steps(states, row) == 0).count()
-}
-
 fn holds_step(states: usize, cell: u16) -> bool {
     cell != NO_STEP && usize::from(cell) < states
+}
+
+pub fn count_ends(table: &Table, flags: &[u8]) -> usize {
+    ends(table, flags).len()
+}
+
+/// Lists the ends (02, S-4): kept states, reached from the first by steps of any signals, without a step out. There are none where the sizes do
+/// not agree.
+pub fn ends(table: &Table, flags: &[u8]) -> Vec<usize> {
+    let Table { states, initial, ref cells, .. } = *table;
+    if !sizes_agree(states, initial, flags, cells) {
+        return Vec::new();
+    }
+    let reached = reached(initial, &vec![u32::MAX; states], cells);
+    let has_step = |state: usize| count_steps(states, &cells[state * SIGNALS..][..SIGNALS]) > 0;
+    (0..states).filter(|&state| flags[state] == 1 && reached[state] && !has_step(state)).collect()
+}
+
+/// Marks with 1 the states that are reached from the first by steps of the signals in each state's set, and all others with 0. Where the sizes do not
+/// agree, the marks stay as they are.
+pub fn mark_reached(marks: &mut [u8], initial: usize, sets: &[u32], cells: &[u16]) {
+    if sizes_agree(marks.len(), initial, sets, cells) {
+        fill_flags(marks, &reached(initial, sets, cells));
+    }
+}
+
+/// Tells whether a table may have so many states, the first is one of them, and each has an entry and a row of cells.
+pub fn sizes_agree<T>(states: usize, initial: usize, entries: &[T], cells: &[u16]) -> bool {
+    states <= MOST_STATES && initial < states && entries.len() == states && cells.len() == states * SIGNALS
 }
 
 /// Checks 1 to 6; a refusal carries its place, in the table that it names.

@@ -21,7 +21,6 @@ enum Call {
     Synthesize,
     CountKept,
     CountSteps,
-    CountEnds,
     CFit,
     CRefine,
     CFollow,
@@ -32,7 +31,7 @@ use Call::*;
 /// The calls, with the ones that have more to go wrong drawn more often.
 const DRAWN: &[Call] = &[
     Judge, Mirror, Follow, Product, Fit, Fit, Compose, Compose, Refine, Refine, Synthesize, Synthesize, Synthesize,
-    CountKept, CountSteps, CountEnds, CFit, CRefine, CFollow, CFollowRecord,
+    CountKept, CountSteps, CFit, CRefine, CFollow, CFollowRecord,
 ];
 
 /// The arguments of a call: all of them are there, whichever the call takes, and all are compared afterwards.
@@ -147,7 +146,6 @@ fn by_reference(case: &mut Case) -> Reply {
         Synthesize => Reply::of(calls::synthesize(a, b, cells.part(), flags.part())),
         CountKept => counted(calls::count_kept(flags.part())),
         CountSteps => counted(calls::count_steps(a.states, &a.cells)),
-        CountEnds => counted(calls::count_ends(a.states, &a.cells)),
         CFit => Reply::of(calls::judge_fit(&from_bytes(a, a_bytes), &from_bytes(b, b_bytes), flags.part())),
         CRefine => Reply::of(calls::judge_refinement(&from_bytes(a, a_bytes), &from_bytes(b, b_bytes), flags.part())),
         CFollow => calls::follow(&from_bytes(a, a_bytes), *state, *signal),
@@ -172,7 +170,6 @@ fn by_archive(case: &mut Case) -> Reply {
         Synthesize => archive::synthesize(a, b, cells.part(), flags.part()),
         CountKept => counted(archive::count_kept(flags.part())),
         CountSteps => counted(archive::count_steps(a.states, &a.cells)),
-        CountEnds => counted(archive::count_ends(a.states, &a.cells)),
         CFit => archive::c_fit(a, a_bytes, b, b_bytes, flags.part()),
         CRefine => archive::c_refine(a, a_bytes, b, b_bytes, flags.part()),
         CFollow => archive::c_follow(a, a_bytes, *state, *signal),
@@ -195,7 +192,7 @@ fn random_case(r: &mut Random) -> Case {
     // The buffers are as long as the sound tables need; damage comes after.
     let pairs = (a.states * b.states).min(4_200);
     let (mut cells, mut flags) = (pairs * SIGNALS, pairs);
-    let is_count = matches!(call, CountKept | CountSteps | CountEnds);
+    let is_count = matches!(call, CountKept | CountSteps);
     let faults = if is_count { 0 } else { r.pick(&[0, 0, 0, 0, 0, 0, 1, 1, 2, 3]) };
     // A fault of the first table hides those of the second, so the second is at times damaged alone.
     let spares_first = !takes_one(call) && r.percent(40);
@@ -230,7 +227,7 @@ fn takes_bytes(call: Call) -> bool {
     matches!(call, CFit | CRefine | CFollow | CFollowRecord)
 }
 
-fn wrong_length(r: &mut Random, length: usize) -> usize {
+pub fn wrong_length(r: &mut Random, length: usize) -> usize {
     r.pick(&[0, length.saturating_sub(1), length + 1, length / 2, length * 2])
 }
 
@@ -320,7 +317,7 @@ fn outcome(call: Call, number: u32, table: u32, yes: bool) -> String {
 
 /// Whether the call says yes or no; of the follower, no is "not now".
 fn has_verdict(call: Call) -> bool {
-    !matches!(call, Judge | Mirror | Product | CountKept | CountSteps | CountEnds)
+    !matches!(call, Judge | Mirror | Product | CountKept | CountSteps)
 }
 
 fn mended(cells: usize) -> &'static str {
@@ -369,6 +366,6 @@ fn refusals(call: Call) -> Vec<(u32, u32)> {
         Product | Fit | Compose | CFit => of_two.chain([(7, 0), (9, 0), (10, 0)]).collect(),
         Refine | CRefine => of_two.chain([(9, 0), (10, 0)]).collect(),
         Synthesize => of_two.chain([(8, 0), (9, 0), (10, 0)]).collect(),
-        CountKept | CountSteps | CountEnds => Vec::new(),
+        CountKept | CountSteps => Vec::new(),
     }
 }

@@ -38,7 +38,7 @@ pub fn run(seed: u64, count: u64, only: Option<u64>) -> bool {
 }
 
 /// A module and a plan that check 8 accepts.
-fn random_pair(r: &mut Random, most_states: usize, suits: impl Fn(&Table) -> bool) -> (Table, Table) {
+pub fn random_pair(r: &mut Random, most_states: usize, suits: impl Fn(&Table) -> bool) -> (Table, Table) {
     loop {
         let sizes = (r.between(1, most_states), r.between(1, most_states));
         let (module, plan) = module_and_plan(r, sizes);

@@ -1,18 +1,19 @@
-//! An independent implementation of document 01 and of S-2, S-3, S-5 and S-9 of document 02, written from their words and by the plainest means, and
-//! comparisons of the archives and the programs with it. The rules are in `table` to `synth`, the calls with their refusals in `calls`, `text`,
-//! `writer`, `program` and `lister`; what is tried comes from `random_tables` and `random_texts`, and `places` says which bad cells have to be among
-//! it, `orders` which steps of one state, `spellings` which names; the archives stand behind `archive`.
+//! An independent implementation of document 01 and of S-2 to S-5 and S-9 of document 02, written from their words and by the plainest means, and
+//! comparisons of the archives and the programs with it. The rules are in `table` to `synth` and `reach`, the calls with their refusals in `calls`,
+//! `text`, `writer`, `program` and `lister`; what is tried comes from `random_tables` and `random_texts`, and `places` says which bad cells have to be
+//! among it, `orders` which steps of one state, `ways` which ends, `spellings` which names; the archives stand behind `archive`.
 //!
 //! Where document 01 is silent the reference follows docs/DECISIONS.md or the library, and says nothing on its own: the table that a refusal of a call
-//! on one table and of the writer names; a missing entry of the writer's names; what counts as a step in cells that no check has seen; how
-//! `count_ends` takes cells that are no whole rows; 10 where `report` is lent less than the program lends; that a report which is refused after the
-//! reading leaves its tables as a refused reading does; what `list` returns where it is lent too few bytes.
+//! on one table and of the writer names; a missing entry of the writer's names; what counts as a step in cells that no check has seen; what
+//! `count_ends` and `mark_reached` do where the sizes do not agree; 10 where `report` is lent less than the program lends; that a report which is
+//! refused after the reading leaves its tables as a refused reading does; what `list` returns where it is lent too few bytes.
 //!
 //!     reference selftest CASES CLASHES                               the reference alone, on folders of expected output
 //!     reference tables SEED COUNT [CASE]                             the calls on tables
 //!     reference texts SEED COUNT [CASE]                              reading, lookup, listing of clashes, writing, report
 //!     reference demand3 SEED COUNT [CASE]                            all small sequencers
 //!     reference flags SEED COUNT [CASE]                              counts of kept flags
+//!     reference ends SEED COUNT [CASE]                               what is reached, and counts of ends
 //!     reference substitution SEED COUNT [CASE]                       a part in the place of the one that it refines: the archive alone
 //!     reference program SEED COUNT FOLDER SEQUENCER CLASHES [CASE]   the two programs, run in a scratch folder
 //!
@@ -21,6 +22,7 @@
 mod archive;
 mod bytes;
 mod calls;
+mod compare_ends;
 mod compare_flags;
 mod compare_readings;
 mod compare_tables;
@@ -36,6 +38,7 @@ mod program;
 mod random;
 mod random_tables;
 mod random_texts;
+mod reach;
 mod refine;
 mod reply;
 mod run_program;
@@ -46,6 +49,7 @@ mod synth;
 mod table;
 mod tally;
 mod text;
+mod ways;
 mod writer;
 
 use std::path::Path;
@@ -59,7 +63,7 @@ fn main() -> ExitCode {
         Some(false) => ExitCode::FAILURE,
         None => {
             eprintln!("usage: reference selftest CASES CLASHES");
-            eprintln!("       reference tables|texts|demand3|flags|substitution SEED COUNT [CASE]");
+            eprintln!("       reference tables|texts|demand3|flags|ends|substitution SEED COUNT [CASE]");
             eprintln!("       reference program SEED COUNT FOLDER SEQUENCER CLASHES [CASE]");
             ExitCode::from(2)
         }
@@ -79,6 +83,7 @@ fn run(arguments: &[&str]) -> Option<bool> {
         ("texts", case) => Some(compare_texts::run(seed, count, one(case)?)),
         ("demand3", case) => Some(demand3::run(seed, count, one(case)?)),
         ("flags", case) => Some(compare_flags::run(seed, count, one(case)?)),
+        ("ends", case) => Some(compare_ends::run(seed, count, one(case)?)),
         ("substitution", case) => Some(substitution::run(seed, count, one(case)?)),
         ("program", [folder, sequencer, clashes, case @ ..]) => {
             let programs = [Path::new(sequencer), Path::new(clashes)];

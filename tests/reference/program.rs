@@ -123,7 +123,7 @@ fn summary(reply: &Reply, table: &Table, flags: &[u8]) -> Vec<u8> {
         ("kept", count_kept(flags)),
         ("rounds", reply.value),
         ("steps", count_steps(table.states, &table.cells)),
-        ("ends", count_ends(table.states, &table.cells)),
+        ("ends", count_ends(table, flags)),
     ];
     let mut lines = line(&[b"verdict", verdict]);
     for (word, count) in counts {

@@ -1,3 +1,4 @@
 pub mod Flags
 pub mod Cells
+pub mod Ends
 pub mod Words

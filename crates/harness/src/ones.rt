@@ -4,6 +4,7 @@ ghost use Rattle.theory.specs.Table.{keptCount};
 ghost use Rattle.theory.specs.Checks.{first, tableChecks};
 ghost use Rattle.automaton.specs.Replies.{mirrorReply};
 ghost use Rattle.follower.specs.Replies.{followReply};
+ghost use Rattle.reach.specs.Marks.{reachedMarks};
 ghost use Rattle.counts.specs.Cells.{stepsIn, endsIn};
 ghost use Rattle.replies.specs.Replies.{judged, mirrored, followed};
 ghost use Rattle.harness.specs.Tables.{tableOf};
@@ -96,10 +97,36 @@ pub extern "C" fn harness_count_steps(states: usize, cells: &[u16]) -> usize
     counts::count_steps(states, cells)
 }
 
-// How many rows hold none.
+// How many states are ends.
 #[no_mangle]
-pub extern "C" fn harness_count_ends(states: usize, cells: &[u16]) -> usize
-    ensures { λ r. ⌜ r ≡ endsIn states (now (cells .entry)) ⌝ }
+pub extern "C" fn harness_count_ends(
+    states: usize,
+    initial: usize,
+    inputs: u32,
+    outputs: u32,
+    cells: &[u16],
+    flags: &[u8],
+) -> usize
+    ensures { λ r. ⌜ r ≡ endsIn (tableOf states initial inputs outputs (now (cells .entry))) (now (flags .entry)) ⌝ }
 {
-    counts::count_ends(states, cells)
+    let a = Automaton {
+        states,
+        initial,
+        inputs,
+        outputs,
+    };
+    counts::count_ends(a, cells, flags)
+}
+
+// Which states are reached from the first one by the actions of each state's set.
+#[no_mangle]
+pub extern "C" fn harness_mark_reached(
+    marks: &mut [u8],
+    initial: usize,
+    sets: &[u32],
+    cells: &[u16],
+)
+    ensures { λ _. ⌜ now (marks .exit) ≡ reachedMarks initial (now (sets .entry)) (now (cells .entry)) (now (marks .entry)) ⌝ }
+{
+    reach::mark_reached(marks, initial, sets, cells)
 }

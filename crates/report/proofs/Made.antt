@@ -3,7 +3,7 @@ use mathlib.Core.Path.{_≡_, refl, sym, ap, _∙_}
 use mathlib.Core.Bool.{Bool, true, false, cond}
 use mathlib.Core.List.{List, []}
 use native.Mathlib.Omega.{arith}
-use Prim.Native.Nat.{ℕ, _*_, _≤_}
+use Prim.Native.Nat.{ℕ, _*_}
 use lib.ListN.{length}
 use Rattle.theory.specs.declared.Automaton.{Automaton}
 use Rattle.theory.specs.declared.Refusal.{Refusal}
@@ -13,10 +13,13 @@ use Rattle.theory.specs.Table.{Table, table, cellsOf, composition, synthesis, c
 use Rattle.theory.specs.Checks.{first, synthesisChecks}
 use Rattle.theory.proofs.Bounded.{length-tabulate}
 use Rattle.theory.proofs.Checks.{first-append, first-accepted, checks-premises}
+use Rattle.theory.proofs.Numbering.{pair-lt}
+use Rattle.reach.specs.Marks.{Searchable}
 use Rattle.emit.specs.Buffer.{stored, after}
 use Rattle.emit.proofs.Buffer.{Puts}
 use Rattle.counts.specs.Cells.{stepsIn, endsIn}
-use Rattle.counts.proofs.Cells.{steps-of-table, ends-of-table}
+use Rattle.counts.proofs.Cells.{steps-of-table}
+use Rattle.counts.proofs.Ends.{ends-of-table}
 use Rattle.synthesis.specs.declared.Synthesis.{Synthesis}
 use Rattle.synthesis.specs.declared.Synthesis.the-variants as made
 use Rattle.synthesis.specs.Replies.{verdict, decidedOf, synthesisReply, synthesisCells, synthesisFlags}
@@ -26,11 +29,11 @@ use Rattle.report.specs.Parts.{sixOf, isRefused, answerText, Answers, re
 
 -- ---- the six lines over the buffers
 
-pub six-put : (d : List ℕ) (compatible : Bool) (states kept rounds steps ends : ℕ) (cells flags : List ℕ) (r : ℕ) (b : List ℕ)
-    → kept ≡ keptCount flags → steps ≡ stepsIn states cells → ends ≡ endsIn states cells
-    → Puts d 0 (figures compatible states kept rounds steps ends) r b → Puts d 0 (sixOf compatible states rounds cells flags) r b
+pub six-put : (d : List ℕ) (compatible : Bool) (h : Automaton) (kept rounds steps ends : ℕ) (cells flags : List ℕ) (r : ℕ) (b : List ℕ)
+    → kept ≡ keptCount flags → steps ≡ stepsIn (h .states) cells → ends ≡ endsIn (table h cells) flags
+    → Puts d 0 (figures compatible (h .states) kept rounds steps ends) r b → Puts d 0 (sixOf compatible h rounds cells flags) r b
 unfolding sixOf
-six-put d compatible states kept rounds steps ends cells flags r b e f g p = rw (e, f, g) at p
+six-put d compatible h kept rounds steps ends cells flags r b e f g p = rw (e, f, g) at p
 
 -- ---- the reply
 
@@ -42,11 +45,11 @@ module _ (m p : List ℕ) (s : Synthesis) (cells flags out : List ℕ) (e : ℕ)
       → Tells refused
   tell-refused r q refused w (u, v) = record { refuses = w ∙ rw q; ends = rw q u; stands = rw q v }
 
-  pub tell-none : (h : Automaton) (n : ℕ) → s ≡ made.NoController h n → Puts out 0 (sixOf false (h .states) n cells flags) e out′ → Tells false
+  pub tell-none : (h : Automaton) (n : ℕ) → s ≡ made.NoController h n → Puts out 0 (sixOf false h n cells flags) e out′ → Tells false
   tell-none h n q (u, v) = record { refuses = rw q; ends = rw q u; stands = rw q v }
 
   pub tell-yes : (h : Automaton) (n : ℕ) → s ≡ made.Controller h n → (refused : Bool)
-      → Answers (first (textChecks m p (table h cells))) (withText m p (table h cells) (sixOf true (h .states) n cells flags)) out refused e out′
+      → Answers (first (textChecks m p (table h cells))) (withText m p (table h cells) (sixOf true h n cells flags)) out refused e out′
       → Tells refused
   tell-yes h n q refused i = rw q i
 
@@ -116,18 +119,31 @@ module _ (m p : List ℕ) (a b : Table) (cells flags cells′ flags′ : List �
     unfolding composition cellsOf
     full = length-tabulate _ 0 (t .header .states * 32)
 
-    few : t .header .states ≤ 4096
-    few = checks-premises a b (n * 32) n yes .few-pairs
+    flagged : length (synthesis a b .flags) ≡ t .header .states
+    unfolding composition
+    flagged = length-tabulate _ 0 (t .header .states)
+
+    -- The sizes fit.
+    fits : Searchable (t .header .initial) (t .header .states) (length (t .cells)) (length (synthesis a b .flags))
+    fits =
+        let v = checks-premises a b (n * 32) n yes in record {
+          few = v .few-pairs;
+          first = pair-lt (a .header .states) (b .header .states) (omega (arith, v .specification .initial)) (v .component .initial) (v .specification .initial);
+          cells-each = full;
+          entry-each = flagged;
+        }
 
     -- The figures that are counted in the buffers are those of the table.
     abbrev figured : Bool → List ℕ
-    figured v = figures v (t .header .states) (keptCount (synthesis a b .flags)) (synthesis a b .rounds) (stepCount t) (endCount t)
+    figured v = figures v (t .header .states) (keptCount (synthesis a b .flags)) (synthesis a b .rounds) (stepCount t) (endCount t (synthesis a b .flags))
 
-    six : (v : Bool) → sixOf v (t .header .states) (synthesis a b .rounds) cells′ flags′ ≡ figured v
+    six : (v : Bool) → sixOf v (t .header) (synthesis a b .rounds) cells′ flags′ ≡ figured v
     unfolding sixOf
     six v =
-        let steps : stepsIn (t .header .states) cells′ ≡ stepCount t = ap (stepsIn (t .header .states)) cells-are ∙ steps-of-table t (omega (arith, few)) full in
-        let ends : endsIn (t .header .states) cells′ ≡ endCount t = ap (endsIn (t .header .states)) cells-are ∙ ends-of-table t (omega (arith, few)) full in
+        let steps : stepsIn (t .header .states) cells′ ≡ stepCount t =
+        ap (stepsIn (t .header .states)) cells-are ∙ steps-of-table t (omega (arith, fits .few)) full in
+        let ends : endsIn (table (t .header) cells′) flags′ ≡ endCount t (synthesis a b .flags) =
+        (λ i. endsIn (table (t .header) (cells-are i)) (flags-are i)) ∙ ends-of-table t (synthesis a b .flags) fits in
         λ i. figures v (t .header .states) (keptCount (flags-are i)) (synthesis a b .rounds) (steps i) (ends i)
 
     checked-same : replyChecked m p s cells′ ≡ whole

@@ -1,17 +1,20 @@
--- What a reader of a report may conclude, whatever is lent (01, "The program and one full run"): no digit of a figure is lost, more than 1,024
--- pairs get 10, and a refusal leaves nothing half done in the lent buffers.
+-- What a reader of a report may conclude, whatever is lent (01, "The program and one full run"; 02, S-4): no digit of a figure is lost, the ends are those
+-- of the composition, more than 1,024 pairs get 10, and a refusal leaves nothing half done in the lent buffers.
 use mathlib.Core.Path.{_≡_, refl, ap, _∙_}
+use mathlib.Core.Logic.{_↔_}
 use mathlib.Core.Bool.{Bool, true, false, not, _||_, cond}
 use mathlib.Core.List.{List, [], _∷_, _++_, append-nil}
-use Prim.Native.Nat.{ℕ, _+_, _*_, _≤_, _<_}
+use Prim.Native.Nat.{ℕ, _+_, _*_, _/_, _%_, _≤_, _<_}
 use native.Mathlib.Omega.{arith}
 use native.Mathlib.Decide.{ℕ-discrete}
 use lib.Dec.{T, eqb, ltb}
-use lib.ListN.{length, drop, replicate}
+use lib.ListN.{length, getD, drop, replicate}
 use borrow.Author.Tests.{ne-eqb}
 use Rattle.theory.specs.declared.Checked.{Checked}
 use Rattle.theory.specs.declared.Checked.the-variants.{Accepted, Refused}
-use Rattle.theory.specs.Table.{Table, mirrorTable, cellsOf, composition, synthesis, controller, keptCount, stepCount, endCount}
+use Rattle.theory.specs.Numbered.{interface}
+use Rattle.theory.specs.Reachability.{End, reached}
+use Rattle.theory.specs.Table.{Table, automaton, mirrorTable, cellsOf, composition, synthesis, controller, keptCount, stepCount, isEnd, endCount}
 use Rattle.theory.specs.Checks.{first, refuse, uncovered, eachTable, synthesisChecks}
 use Rattle.theory.specs.Demand.{Premises}
 use Rattle.theory.proofs.Bounded.{length-tabulate, count-le}
@@ -19,6 +22,7 @@ use Rattle.theory.proofs.Checks.{first-part, first-refused, first-accepted, bot
 use Rattle.theory.proofs.Controller.{mirror-valid}
 use Rattle.theory.proofs.Tests.{or-right}
 use Rattle.theory.proofs.Verdicts as verdicts
+use Rattle.theory.proofs.Ends as ends
 use Rattle.counts.proofs.Flags.{kept-le}
 use Rattle.text.specs.declared.Spelling.the-variants.{Folded}
 use Rattle.text.specs.Reading.{Reading, Joint, both, neither, readBoth, tableRead}
@@ -43,7 +47,19 @@ pub record Small (a b : Table) : Type 0 where
   pub kept : keptCount (synthesis a b .flags) ≤ 1024
   pub rounds : synthesis a b .rounds ≤ 1024
   pub steps : stepCount (controller a b) ≤ 32768
-  pub ends : endCount (controller a b) ≤ 1024
+  pub ends : endCount (controller a b) (synthesis a b .flags) ≤ 1024
+
+-- 02, S-4: what is counted as ends, by the automata of the module and of the plan's mirror and their composition (001, Definition 10).
+pub record Ends (a b : Table) : Type 0 where
+  -- A pair is counted exactly if it is an end.
+  pub counted : (k : ℕ) → k < controller a b .header .states
+      → T (isEnd (controller a b) (synthesis a b .flags) k)
+      ↔ End (interface (automaton a)) (interface (automaton (mirrorTable b))) (k / b .header .states, k % b .header .states)
+  -- Under yes every pair that is reached is kept, ..
+  pub yes : T (synthesis a b .compatible) → (k : ℕ) → k < controller a b .header .states → T (reached 32 (automaton (controller a b)) k)
+      → getD (synthesis a b .flags) k 0 ≡ 1
+  -- .. and under none there is no end.
+  pub none : ¬ T (synthesis a b .compatible) → endCount (controller a b) (synthesis a b .flags) ≡ 0
 
 -- Of three tests the third alone applies.
 third : (x y z : Bool) (r₁ r₂ r₃ r₄ : Checked) → ¬ T x → ¬ T y → T z → cond x r₁ (cond y r₂ (cond z r₃ r₄)) ≡ r₃
@@ -74,7 +90,7 @@ module _ (m p : List ℕ) (a b : Table) (cells flags : ℕ) where
   unfolding stepCount
   steps-few = count-le (count * 32) _
 
-  ends-few : endCount (controller a b) ≤ count
+  ends-few : endCount (controller a b) (synthesis a b .flags) ≤ count
   unfolding endCount
   ends-few = count-le count _
 
@@ -103,6 +119,18 @@ module _ (m p : List ℕ) (a b : Table) (cells flags : ℕ) where
         rounds = omega (arith, few, verdicts.rounds-pairs a (mirrorTable b) (v .component) (mirror-valid b (v .specification)));
         steps = omega (arith, few, steps-few);
         ends = omega (arith, few, ends-few);
+      }
+
+  -- The ends that are printed are those of the composition.
+  pub ends-mean : first (reportChecks m p a b lent) ≡ Accepted → Ends a b
+  unfolding composition endCount
+  ends-mean e =
+      let v = checks-premises a b (lent * 32) lent (maker-accepted e) in
+      let w = mirror-valid b (v .specification) in
+      let few : count ≤ 65535 = omega (arith, v .few-pairs) in record {
+        counted = ends.end-counted a (mirrorTable b) (v .component) w few;
+        yes = ends.yes-kept a (mirrorTable b) (v .component) w few;
+        none = ends.none-ended a (mirrorTable b) (v .component) w few;
       }
 
   makers-ten : Premises a b → 1024 < count → first (synthesisChecks a b (lent * 32) lent) ≡ refuse 10 0

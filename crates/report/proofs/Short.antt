@@ -34,7 +34,7 @@ module _ (m p : List ℕ) where
   made-short a b n = go (first (reportChecks m p a b n)) refl (synthesis a b .compatible) refl
     where
       six : Bool → List ℕ
-      six v = figures v (a .header .states * b .header .states) (keptCount (synthesis a b .flags)) (synthesis a b .rounds) (stepCount (controller a b)) (endCount (controller a b))
+      six v = figures v (a .header .states * b .header .states) (keptCount (synthesis a b .flags)) (synthesis a b .rounds) (stepCount (controller a b)) (endCount (controller a b) (synthesis a b .flags))
 
       short : (v : Bool) → length (six v) ≤ 72
       short v = figures-short v _ _ _ _ _

@@ -17,8 +17,9 @@ use Rattle.printout.specs.Lines.{refusalText, figures}
 use Rattle.report.specs.Report.{lentPairs, roomOf, textChecks, withText, reportChecks, resultText}
 
 -- The six lines over what stands in the maker's buffers.
-unfoldable pub sixOf : Bool → ℕ → ℕ → List ℕ → List ℕ → List ℕ
-sixOf compatible states rounds cells flags = figures compatible states (keptCount flags) rounds (stepsIn states cells) (endsIn states cells)
+unfoldable pub sixOf : Bool → Automaton → ℕ → List ℕ → List ℕ → List ℕ
+sixOf compatible h rounds cells flags =
+    figures compatible (h .states) (keptCount flags) rounds (stepsIn (h .states) cells) (endsIn (table h cells) flags)
 
 -- Whether a check applies, so that the answer is a refusal.
 abbrev pub isRefused : Checked → Bool
@@ -43,8 +44,8 @@ module _ (m p : List ℕ) where
   replyChecked (made.Refused r) cells = Refused r
 
   abbrev pub replyText : Synthesis → List ℕ → List ℕ → List ℕ
-  replyText (made.Controller h n) cells flags = withText m p (table h cells) (sixOf true (h .states) n cells flags)
-  replyText (made.NoController h n) cells flags = sixOf false (h .states) n cells flags
+  replyText (made.Controller h n) cells flags = withText m p (table h cells) (sixOf true h n cells flags)
+  replyText (made.NoController h n) cells flags = sixOf false h n cells flags
   replyText (made.Refused r) cells flags = []
 
 -- ---- by the two tables

@@ -47,7 +47,7 @@ module _ (m p : List ℕ) (a b : Table) where
   resultText =
       let s = synthesis a b in
       let t = controller a b in
-      let six = figures (s .compatible) (t .header .states) (keptCount (s .flags)) (s .rounds) (stepCount t) (endCount t) in
+      let six = figures (s .compatible) (t .header .states) (keptCount (s .flags)) (s .rounds) (stepCount t) (endCount t (s .flags)) in
       cond (s .compatible) (withText m p t six) six
 
 -- ---- two texts

@@ -26,18 +26,18 @@ struct Answer {
 fn six_lines(
     out: &mut [u8],
     compatible: bool,
-    states: usize,
+    header: Automaton,
     rounds: usize,
     cells: &[u16],
     flags: &[u8],
 ) -> usize
-    ensures { λ r. ⌜ r ≡ after (length (now (out .entry))) 0 (sixOf compatible states rounds (now (cells .entry)) (now (flags .entry))) ⌝ }
-    ensures { λ r. ⌜ now (out .exit) ≡ stored (now (out .entry)) 0 (sixOf compatible states rounds (now (cells .entry)) (now (flags .entry))) ⌝ }
+    ensures { λ r. ⌜ r ≡ after (length (now (out .entry))) 0 (sixOf compatible header rounds (now (cells .entry)) (now (flags .entry))) ⌝ }
+    ensures { λ r. ⌜ now (out .exit) ≡ stored (now (out .entry)) 0 (sixOf compatible header rounds (now (cells .entry)) (now (flags .entry))) ⌝ }
 {
     let kept = counts::count_kept(flags);
-    let steps = counts::count_steps(states, cells);
-    let ends = counts::count_ends(states, cells);
-    printout::figures(out, compatible, states, kept, rounds, steps, ends)
+    let steps = counts::count_steps(header.states, cells);
+    let ends = counts::count_ends(header, cells, flags);
+    printout::figures(out, compatible, header.states, kept, rounds, steps, ends)
 }
 
 // The line of a refusal after the reading.
@@ -62,12 +62,12 @@ fn put_text<'a>(
     out: &mut [u8],
 ) -> Answer
     requires { ⌜ length (now text) ≡ 65536 ⌝ }
-    ensures { λ r. ⌜ Answers (first (textChecks (now (m .entry)) (now (p .entry)) (table header (now (cells .entry))))) (withText (now (m .entry)) (now (p .entry)) (table header (now (cells .entry))) (sixOf true (header .states) rounds (now (cells .entry)) (now (flags .entry)))) (now (out .entry)) (r .refused) (r .end) (now (out .exit)) ⌝ }
+    ensures { λ r. ⌜ Answers (first (textChecks (now (m .entry)) (now (p .entry)) (table header (now (cells .entry))))) (withText (now (m .entry)) (now (p .entry)) (table header (now (cells .entry))) (sixOf true header rounds (now (cells .entry)) (now (flags .entry)))) (now (out .entry)) (r .refused) (r .end) (now (out .exit)) ⌝ }
 {
     match labels::write_text(m, p, header, cells, text) {
         Printed::Refused(r) => refuse(out, r),
         Printed::Length(n) => {
-            let at = six_lines(out, true, header.states, rounds, cells, flags);
+            let at = six_lines(out, true, header, rounds, cells, flags);
             let end = emit::put(out, at, &text[0..n]);
             Answer {
                 refused: false,
@@ -87,7 +87,7 @@ fn with_text<'a>(
     flags: &[u8],
     out: &mut [u8],
 ) -> Answer
-    ensures { λ r. ⌜ Answers (first (textChecks (now (m .entry)) (now (p .entry)) (table header (now (cells .entry))))) (withText (now (m .entry)) (now (p .entry)) (table header (now (cells .entry))) (sixOf true (header .states) rounds (now (cells .entry)) (now (flags .entry)))) (now (out .entry)) (r .refused) (r .end) (now (out .exit)) ⌝ }
+    ensures { λ r. ⌜ Answers (first (textChecks (now (m .entry)) (now (p .entry)) (table header (now (cells .entry))))) (withText (now (m .entry)) (now (p .entry)) (table header (now (cells .entry))) (sixOf true header rounds (now (cells .entry)) (now (flags .entry)))) (now (out .entry)) (r .refused) (r .end) (now (out .exit)) ⌝ }
 {
     let mut text = [0u8; 65536];
     put_text(m, p, header, rounds, cells, flags, &mut text, out)
@@ -115,7 +115,7 @@ fn tell<'a>(
             out,
         ),
         Synthesis::NoController { header, rounds } => {
-            let end = six_lines(out, false, header.states, rounds, cells, flags);
+            let end = six_lines(out, false, header, rounds, cells, flags);
             Answer {
                 refused: false,
                 end,

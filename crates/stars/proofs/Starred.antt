@@ -4,10 +4,11 @@ use mathlib.Core.List.{map}
 use Rattle.theory.specs.Bounded.{tabulate, any, count}
 use Rattle.theory.specs.Closure.{near, after, rounds}
 use Rattle.theory.specs.Numbered.{productNext, illegal, incompatibility, unmatched, unrelated, listConditionFails}
+use Rattle.theory.specs.Reachability.{reachedFrom}
 use Rattle.theory.specs.Table.{cellsOf, composition, refinement, keptCount, stepCount, endCount}
 use Rattle.theory.specs.Checks.{first, tableChecks, eachTable, compatibilityChecks, compositionChecks, synthesisChecks, refinementChecks}
 use Rattle.stars.specs.Situations.{situations, computed, stepsFrom}
 
 pub starred : map computed situations ≡ map (λ r. r .gives) situations
-unfolding tabulate any count near after rounds productNext illegal incompatibility unmatched unrelated listConditionFails cellsOf composition refinement keptCount stepCount endCount first tableChecks eachTable compatibilityChecks compositionChecks synthesisChecks refinementChecks situations stepsFrom
+unfolding tabulate any count near after rounds productNext illegal incompatibility unmatched unrelated listConditionFails reachedFrom cellsOf composition refinement keptCount stepCount endCount first tableChecks eachTable compatibilityChecks compositionChecks synthesisChecks refinementChecks situations stepsFrom
 starred = refl

@@ -86,7 +86,7 @@ outcome p q make =
     let pairs = p .header .states * q .header .states in
     let t = controller p q in
     unlessRefused (first (synthesisChecks p q (pairs * 32) pairs)) turned
-    (made (figures (synthesis p q) t) (endCount t) (t .header .inputs) (t .header .outputs) (stepsFrom t 0 (pairs * 32)))
+    (made (figures (synthesis p q) t) (endCount t (synthesis p q .flags)) (t .header .inputs) (t .header .outputs) (stepsFrom t 0 (pairs * 32)))
 outcome p q refine =
     unlessRefused (first (refinementChecks p q (p .header .states * q .header .states))) turned (refines (refinement p q .refines))
 
@@ -152,17 +152,17 @@ unfoldable pub situations : List Situation
 situations =
     row ref cal (fit ∷ compose ∷ []) (fits true 1 ∷ composed (figured true 12 8 1 4) ∷ [])
     ∷ row ref hasty (fit ∷ compose ∷ []) (fits false 2 ∷ composed (figured false 9 4 2 2) ∷ [])
-    -- The run: ends 9, the lists, and its six steps.
+    -- The run: one end (02, S-4), the lists, and its six steps.
     ∷ row ref plan (make ∷ []) (
-    made (figured true 15 11 1 6) 9 (actionSet (settled ∷ start ∷ [])) (actionSet (power ∷ read ∷ []))
+    made (figured true 15 11 1 6) 1 (actionSet (settled ∷ start ∷ [])) (actionSet (power ∷ read ∷ []))
     ((0, start, 1) ∷ (1, power, 7) ∷ (3, read, 4) ∷ (7, settled, 13) ∷ (10, start, 11) ∷ (13, read, 14) ∷ [])
     ∷ [])
     -- No step by power; the first pair takes start alone, and the pair after it nothing.
     ∷ row ref waiting (make ∷ []) (
-    made (figured true 12 8 1 4) 8 (actionSet (settled ∷ start ∷ [])) (actionSet (power ∷ read ∷ []))
+    made (figured true 12 8 1 4) 1 (actionSet (settled ∷ start ∷ [])) (actionSet (power ∷ read ∷ []))
     ((0, start, 1) ∷ (2, read, 3) ∷ (8, start, 9) ∷ (10, read, 11) ∷ [])
     ∷ [])
-    ∷ row ref twice (make ∷ []) (made (figured false 9 2 2 0) 9 (actionSet (power ∷ settled ∷ [])) (actionSet []) [] ∷ [])
+    ∷ row ref twice (make ∷ []) (made (figured false 9 2 2 0) 0 (actionSet (power ∷ settled ∷ [])) (actionSet []) [] ∷ [])
     ∷ row ref ref (refine ∷ []) (refines true ∷ [])
     ∷ row again ref (refine ∷ []) (refines true ∷ [])
     ∷ row ref again (refine ∷ []) (refines false ∷ [])

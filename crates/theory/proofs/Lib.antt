@@ -18,6 +18,7 @@ pub mod Table
 pub mod Checks
 pub mod Locations
 pub mod Verdicts
+pub mod Ends
 pub mod Controller
 pub mod Commutative
 pub mod Substitution
