@@ -1,11 +1,12 @@
 //! Inputs of the benchmarks: tables and texts, the same in every run.
 
-use crate::plain::{NO_STEP, Table};
+use crate::plain::{NO_STEP, Scratch, Table};
 
 /// A table with cells of its own.
 #[derive(Clone)]
 pub struct Owned {
     pub states: usize,
+    pub initial: usize,
     pub inputs: u32,
     pub outputs: u32,
     pub cells: Vec<u16>,
@@ -13,11 +14,11 @@ pub struct Owned {
 
 impl Owned {
     pub fn new(states: usize, inputs: u32, outputs: u32) -> Owned {
-        Owned { states, inputs, outputs, cells: vec![NO_STEP; states * 32] }
+        Owned { states, initial: 0, inputs, outputs, cells: vec![NO_STEP; states * 32] }
     }
 
     pub fn table(&self) -> Table<'_> {
-        Table { states: self.states, initial: 0, inputs: self.inputs, outputs: self.outputs, cells: &self.cells }
+        Table { states: self.states, initial: self.initial, inputs: self.inputs, outputs: self.outputs, cells: &self.cells }
     }
 
     pub fn mirror(mut self) -> Owned {
@@ -231,4 +232,40 @@ fn heading(t: &Owned, names: &[String], first: usize) -> String {
 /// A table for the follower: 32 signals, one cell in eight without a step.
 pub fn followed(seed: u64, states: usize) -> Owned {
     random(&mut Random(seed), states, u32::MAX, 0, states * 4)
+}
+
+/// Makes a chain through all states: each has one step, by any signal, to the next one, and the last has none.
+pub fn path(seed: u64, states: usize) -> Owned {
+    let mut r = Random(seed);
+    let mut t = Owned::new(states, u32::MAX, 0);
+    for p in 1..states {
+        t.step(p - 1, r.below(32), p);
+    }
+    t
+}
+
+/// Makes a table with so many steps a state, by any signals to any states.
+pub fn scattered(seed: u64, states: usize, steps: usize) -> Owned {
+    let mut r = Random(seed);
+    let mut t = Owned::new(states, u32::MAX, 0);
+    for p in 0..states {
+        let mut left = steps;
+        while left > 0 {
+            let signal = r.below(32);
+            if t.cells[p * 32 + signal] == NO_STEP {
+                t.step(p, signal, r.below(states));
+                left -= 1;
+            }
+        }
+    }
+    t
+}
+
+/// Makes a sequencer of a module and a plan; none where the verdict is no, as the first pair then has no step.
+pub fn made((module, plan): (Owned, Owned)) -> Option<Owned> {
+    let pairs = module.states * plan.states;
+    let (mut cells, mut flags) = (vec![NO_STEP; pairs * 32], vec![0; pairs]);
+    let reply = Scratch::new().synthesize(module.table(), plan.table(), &mut cells, &mut flags);
+    let table = Owned { states: pairs, initial: reply.initial, inputs: reply.inputs, outputs: reply.outputs, cells };
+    reply.yes.then_some(table)
 }

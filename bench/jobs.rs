@@ -12,6 +12,11 @@ const VARIANTS: u64 = 16;
 
 const SIGNALS: usize = 1_000_000;
 
+/// Numbers of states of the tables that are searched, and how many states the tables of one size have together: where they have fewer, the
+/// processor learns every branch by heart, and where they have more, they leave the cache.
+const SEARCHED: [usize; 5] = [16, 64, 256, 1024, 4096];
+const SEARCHED_TOGETHER: usize = 4096;
+
 /// How many flags are counted.
 const FLAGS: [usize; 5] = [7, 64, 1024, 4096, 1_048_576];
 
@@ -32,6 +37,8 @@ pub enum Call {
     Write,
     Count,
     CountSingly,
+    Ends,
+    Reach,
     Follow,
 }
 
@@ -47,6 +54,8 @@ impl Call {
             Call::List => "list",
             Call::Write => "write",
             Call::Count | Call::CountSingly => "count",
+            Call::Ends => "ends",
+            Call::Reach => "reach",
             Call::Follow => "follow",
         }
     }
@@ -56,7 +65,7 @@ impl Call {
         match self {
             Call::Read | Call::Archive | Call::List | Call::Write | Call::Count | Call::CountSingly => "bytes",
             Call::Follow => "signals",
-            Call::Judge => "states",
+            Call::Judge | Call::Ends | Call::Reach => "states",
             _ => "pairs",
         }
     }
@@ -72,7 +81,8 @@ impl Call {
 }
 
 /// One line of the figures: a call and its inputs. Calls take the pairs of tables in turn. A module's text, signals or flags are in `bytes`, a
-/// plan's text is in `plan`; `listing` is what the lister prints of the two, and `room` says how many bytes a call on texts is lent.
+/// plan's text is in `plan`; `listing` is what the lister prints of the two, and `room` says how many bytes a call on texts is lent. A search goes
+/// by the signals in `sets`, one set for each state.
 pub struct Job {
     pub call: Call,
     pub family: String,
@@ -80,6 +90,7 @@ pub struct Job {
     pub size: usize,
     pub tables: Vec<(Owned, Owned)>,
     pub bytes: Vec<u8>,
+    pub sets: Vec<u32>,
     pub plan: Vec<u8>,
     pub listing: String,
     pub names: Vec<String>,
@@ -95,6 +106,7 @@ impl Job {
             size: tables[0].0.states * tables[0].1.states,
             tables,
             bytes: Vec::new(),
+            sets: Vec::new(),
             plan: Vec::new(),
             listing: String::new(),
             names: Vec::new(),
@@ -118,6 +130,16 @@ impl Job {
     /// The count takes no table.
     pub fn of_flags(call: Call, family: &str, flags: Vec<u8>) -> Job {
         Job::of_bytes(call, family, Owned::new(1, 0, 0), flags)
+    }
+
+    /// Takes tables of one size, all of whose states are kept and go by every signal. A search has no second table.
+    pub fn of_searched(call: Call, family: &str, tables: Vec<Owned>) -> Job {
+        let states = tables[0].states;
+        let alone = |t| (t, Owned::new(1, 0, 0));
+        let mut job = Job::of_pairs(call, family, tables.into_iter().map(alone).collect());
+        job.bytes = vec![1; states];
+        job.sets = vec![u32::MAX; states];
+        job
     }
 
     pub fn of_texts(call: Call, family: &str, texts: Texts) -> Job {
@@ -161,13 +183,16 @@ fn chains() -> Vec<Job> {
     jobs
 }
 
+fn random_pairs(n: usize, dense: bool, refined: bool) -> impl Iterator<Item = Pair> {
+    (0..VARIANTS).map(move |i| inputs::random_pair(SEED + n as u64 * VARIANTS + i, n, dense, refined))
+}
+
 /// Random tables; refinement and the maker take the second one mirrored.
 fn randoms() -> Vec<Job> {
     let mut jobs = Vec::new();
     for (dense, name) in [(false, "random, few signals"), (true, "random, 32 signals")] {
-        let seeds = |n: usize| (0..VARIANTS).map(move |i| SEED + n as u64 * VARIANTS + i);
-        let fit = |n| seeds(n).map(move |s| inputs::random_pair(s, n, dense, false));
-        let refine = |n| seeds(n).map(move |s| inputs::random_pair(s, n, dense, true));
+        let fit = |n| random_pairs(n, dense, false);
+        let refine = |n| random_pairs(n, dense, true);
         jobs.extend(family(Call::Fit, name, |n| fit(n).collect()));
         jobs.extend(family(Call::Refine, name, |n| refine(n).map(mirrored).collect()));
         jobs.extend(family(Call::Synthesize, name, |n| fit(n).map(mirrored).collect()));
@@ -226,6 +251,28 @@ fn counts() -> Vec<Job> {
     words.into_iter().chain(singly).collect()
 }
 
+/// Takes one family of searched tables, small to large.
+fn searched(call: Call, name: &str, make: impl Fn(u64, usize) -> Owned) -> Vec<Job> {
+    let seeds = |n: usize| (0..SEARCHED_TOGETHER / n).map(move |i| SEED + n as u64 * VARIANTS + i as u64);
+    let tables = |n| seeds(n).map(|s| make(s, n)).collect();
+    SEARCHED.iter().map(|&n| Job::of_searched(call, name, tables(n))).collect()
+}
+
+/// Takes what the maker leaves of the random pairs over few signals with verdict yes; over 32 signals hardly any is yes. A kept pair leads to kept
+/// pairs alone, so there are as many ends as by the maker's own flags.
+fn made() -> Vec<Job> {
+    let tables = |n| random_pairs(n, false, false).map(mirrored).filter_map(inputs::made).collect();
+    SIZES[1..].iter().map(|&n| Job::of_searched(Call::Ends, "left by the maker", tables(n))).collect()
+}
+
+fn searches(call: Call) -> Vec<Job> {
+    let mut jobs = searched(call, "chain", inputs::path);
+    for (steps, name) in [(4, "4 steps a state"), (32, "32 steps a state")] {
+        jobs.extend(searched(call, name, |seed, n| inputs::scattered(seed, n, steps)));
+    }
+    jobs
+}
+
 fn follows() -> Vec<Job> {
     let job = |states| {
         let mut r = Random(SEED);
@@ -248,6 +295,9 @@ pub fn all(part: &str) -> Vec<Job> {
     jobs.extend(clashes());
     jobs.extend(texts(Call::Write, &LIMITS));
     jobs.extend(counts());
+    jobs.extend(searches(Call::Ends));
+    jobs.extend(made());
+    jobs.extend(searches(Call::Reach));
     jobs.extend(follows());
     jobs.retain(|j| j.title().contains(part));
     jobs

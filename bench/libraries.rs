@@ -14,6 +14,8 @@ pub trait Library {
         self.count_kept(flags)
     }
 
+    fn count_ends(&mut self, t: &Table, flags: &[u8]) -> usize;
+    fn mark_reached(&mut self, marks: &mut [u8], initial: usize, sets: &[u32], cells: &[u16]);
     fn follow(&mut self, t: &Table, state: usize, signal: usize) -> Reply;
     fn read_together(&mut self, m: &[u8], p: &[u8], cm: &mut [u16], cp: &mut [u16]) -> Reply;
     fn read_archive_together(&mut self, m: &[u8], p: &[u8], cm: &mut [u16], cp: &mut [u16]) -> Reply;
@@ -83,6 +85,8 @@ unsafe extern "C" {
         cells: *mut u16, m: usize, flags: *mut u8, n: usize) -> Reply;
     fn harness_count_kept(flags: *const u8, n: usize) -> usize;
     fn harness_count_singly(flags: *const u8, n: usize) -> usize;
+    fn harness_count_ends(s: usize, i: usize, inputs: u32, outputs: u32, c: *const u16, n: usize, flags: *const u8, nf: usize) -> usize;
+    fn harness_mark_reached(marks: *mut u8, n: usize, initial: usize, sets: *const u32, ns: usize, c: *const u16, nc: usize);
     fn harness_follow(
         s: usize, i: usize, inputs: u32, outputs: u32, c: *const u16, n: usize, state: usize, signal: usize) -> Reply;
     fn harness_read_together(
@@ -101,6 +105,8 @@ unsafe extern "C" {
     fn plain_refine(a: *const CTable, b: *const CTable, marks: *mut u8, n: usize) -> Reply;
     fn plain_synthesize(a: *const CTable, b: *const CTable, cells: *mut u16, m: usize, flags: *mut u8, n: usize) -> Reply;
     fn plain_count_kept(flags: *const u8, n: usize) -> usize;
+    fn plain_count_ends(t: *const CTable, flags: *const u8, n: usize) -> usize;
+    fn plain_mark_reached(marks: *mut u8, n: usize, initial: usize, sets: *const u32, ns: usize, c: *const u16, nc: usize);
     fn plain_follow(t: *const CTable, state: usize, signal: usize) -> Reply;
     fn plain_read_together(m: Part, p: Part, cm: Cells, cp: Cells) -> Reply;
     fn plain_read_archive_together(m: Part, p: Part, cm: Cells, cp: Cells) -> Reply;
@@ -151,6 +157,22 @@ impl Library for Archive {
 
     fn count_singly(&mut self, flags: &[u8]) -> usize {
         unsafe { harness_count_singly(flags.as_ptr(), flags.len()) }
+    }
+
+    fn count_ends(&mut self, t: &Table, flags: &[u8]) -> usize {
+        unsafe {
+            harness_count_ends(
+                t.states, t.initial, t.inputs, t.outputs, t.cells.as_ptr(), t.cells.len(), flags.as_ptr(), flags.len(),
+            )
+        }
+    }
+
+    fn mark_reached(&mut self, marks: &mut [u8], initial: usize, sets: &[u32], cells: &[u16]) {
+        unsafe {
+            harness_mark_reached(
+                marks.as_mut_ptr(), marks.len(), initial, sets.as_ptr(), sets.len(), cells.as_ptr(), cells.len(),
+            )
+        }
     }
 
     fn follow(&mut self, t: &Table, state: usize, signal: usize) -> Reply {
@@ -215,6 +237,15 @@ impl Library for PlainC {
         unsafe { plain_count_kept(flags.as_ptr(), flags.len()) }
     }
 
+    fn count_ends(&mut self, t: &Table, flags: &[u8]) -> usize {
+        unsafe { plain_count_ends(&c_table(t), flags.as_ptr(), flags.len()) }
+    }
+
+    fn mark_reached(&mut self, marks: &mut [u8], initial: usize, sets: &[u32], cells: &[u16]) {
+        let (n, ns, nc) = (marks.len(), sets.len(), cells.len());
+        unsafe { plain_mark_reached(marks.as_mut_ptr(), n, initial, sets.as_ptr(), ns, cells.as_ptr(), nc) }
+    }
+
     fn follow(&mut self, t: &Table, state: usize, signal: usize) -> Reply {
         unsafe { plain_follow(&c_table(t), state, signal) }
     }
@@ -256,6 +287,14 @@ impl Library for PlainRust {
 
     fn count_kept(&mut self, flags: &[u8]) -> usize {
         plain::count_kept(flags)
+    }
+
+    fn count_ends(&mut self, t: &Table, flags: &[u8]) -> usize {
+        self.0.count_ends(*t, flags)
+    }
+
+    fn mark_reached(&mut self, marks: &mut [u8], initial: usize, sets: &[u32], cells: &[u16]) {
+        self.0.mark_reached(marks, initial, sets, cells)
     }
 
     fn follow(&mut self, t: &Table, state: usize, signal: usize) -> Reply {

@@ -10,7 +10,7 @@ mod trials;
 
 use jobs::{Call, Job, SEED};
 use libraries::{Archive, Library, PlainC, PlainRust};
-use plain::{Reply, Scratch};
+use plain::{Reply, Scratch, Table};
 use report::Row;
 use std::collections::BTreeMap;
 use std::hint::black_box;
@@ -44,11 +44,11 @@ fn ready(job: &Job) -> Ready<'_> {
 fn buffers(job: &Job) -> Buffers {
     let (a, b) = &job.tables[0];
     let (cells, others, bytes) = match job.call {
-        Call::Fit | Call::Refine => (0, 0, job.size),
+        Call::Fit | Call::Refine | Call::Reach => (0, 0, job.size),
         Call::Synthesize => (job.size * 32, 0, job.size),
         Call::Read | Call::Archive | Call::List => (a.cells.len(), b.cells.len(), job.room),
         Call::Write => (0, 0, job.room),
-        Call::Judge | Call::Count | Call::CountSingly | Call::Follow => (0, 0, 0),
+        Call::Judge | Call::Count | Call::CountSingly | Call::Ends | Call::Follow => (0, 0, 0),
     };
     Buffers { cells: vec![0x707; cells], others: vec![0x707; others], bytes: vec![7; bytes] }
 }
@@ -83,6 +83,12 @@ fn count_all(job: &Job, mut count: impl FnMut(&[u8]) -> usize) -> Reply {
     Reply { value: kept, ..Reply::default() }
 }
 
+/// Makes a search, which leaves marks and returns nothing.
+fn mark(l: &mut dyn Library, t: &Table, job: &Job, to: &mut Buffers) -> Reply {
+    l.mark_reached(&mut to.bytes, t.initial, &job.sets, t.cells);
+    Reply::default()
+}
+
 /// The lister, which returns the length of what it prints.
 fn list(l: &mut dyn Library, job: &Job, to: &mut Buffers) -> Reply {
     let length = l.list(&job.bytes, &job.plan, &mut to.cells, &mut to.others, &mut to.bytes);
@@ -105,6 +111,8 @@ fn run(l: &mut dyn Library, r: &Ready, i: usize, to: &mut Buffers) -> Reply {
         Call::Write => l.write(&a, b"startup", &r.names, &mut to.bytes),
         Call::Count => count_all(job, |flags| l.count_kept(flags)),
         Call::CountSingly => count_all(job, |flags| l.count_singly(flags)),
+        Call::Ends => Reply { value: l.count_ends(&a, &job.bytes), ..Reply::default() },
+        Call::Reach => mark(l, &a, job, to),
         Call::Follow => follow_all(l, job),
     }
 }
@@ -134,14 +142,15 @@ fn agree(ls: &mut Libraries, r: &Ready, i: usize) -> u32 {
     let (reply, to) = &results[0];
     let number = refusal_of(r.job, reply, to);
     if number == 0 {
-        check_outcome(r.job, to);
+        check_outcome(r.job, reply, to);
     }
     number
 }
 
 /// What is known of the outcome: reading a text gives the table that it was made of, writing the table that text; the lister reads too, and prints
-/// the listing and nothing else; a counter's sequencer has as many kept states as document 000 says, one for each value.
-fn check_outcome(job: &Job, to: &Buffers) {
+/// the listing and nothing else; a counter's sequencer has as many kept states as document 000 says, one for each value; of a chain all states are
+/// reached, and the last is its only end.
+fn check_outcome(job: &Job, reply: &Reply, to: &Buffers) {
     let kept = to.bytes.iter().filter(|&&flag| flag == 1).count();
     match job.family.as_str() {
         trials::NAME => {}
@@ -154,6 +163,8 @@ fn check_outcome(job: &Job, to: &Buffers) {
                 check_listing(job, to);
             }
             Call::Write => assert!(to.bytes[..job.size] == job.bytes),
+            Call::Ends if job.family == "chain" => assert_eq!(reply.value, 1),
+            Call::Reach if job.family == "chain" => assert_eq!(kept, job.size),
             _ => {}
         },
     }

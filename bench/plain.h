@@ -28,7 +28,7 @@ struct cells {
     size_t count;
 };
 
-/* The reply of every call but the count and the lister, field for field that of the archive. */
+/* The reply of every call but the counts, the search and the lister, field for field that of the archive. */
 struct reply {
     uint32_t number;
     uint32_t table;
@@ -53,6 +53,8 @@ struct reply plain_fit(const struct table *a, const struct table *b, uint8_t *fl
 struct reply plain_refine(const struct table *a, const struct table *b, uint8_t *marks, size_t length);
 struct reply plain_synthesize(const struct table *a, const struct table *b, uint16_t *cells, size_t count, uint8_t *flags, size_t length);
 size_t plain_count_kept(const uint8_t *flags, size_t length);
+size_t plain_count_ends(const struct table *t, const uint8_t *flags, size_t length);
+void plain_mark_reached(uint8_t *marks, size_t length, size_t initial, const uint32_t *sets, size_t count, const uint16_t *cells, size_t size);
 struct reply plain_follow(const struct table *t, size_t state, size_t signal);
 struct reply plain_read_together(struct part m, struct part p, struct cells cm, struct cells cp);
 struct reply plain_read_archive_together(struct part m, struct part p, struct cells cm, struct cells cp);

@@ -124,7 +124,7 @@ fn print_goals(rows: &[Row]) {
     print_ratio_goal("(a) from 256 pairs up at most 1.1 times the faster baseline", large);
     print_growth_goal("(b) linear: time grows at most 1.25 times as much as the pairs", steps.collect());
     print_small_goal("(c) up to 64 pairs under 10 us", small);
-    print_ratio_goal("(d) judging, texts, counts and the follower at most 1.1 times the faster baseline", others.collect());
+    print_ratio_goal("(d) judging, texts, counts, ends, reach and the follower at most 1.1 times the faster baseline", others.collect());
     print_count_goal("(e) from 1,024 flags up at most half the time of the loop of before, and no more than either baseline", rows);
 }
 

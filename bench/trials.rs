@@ -11,6 +11,9 @@ const TRIALS: usize = 35_000;
 /// Every number of flags below this one is counted, from each of as many seeds.
 const FLAGS: usize = 100;
 
+/// How many small tables each of the two searches takes.
+const SEARCHES: usize = 10_000;
+
 /// A set of four signals.
 fn set(r: &mut Random) -> u32 {
     r.below(16) as u32
@@ -152,6 +155,55 @@ fn count_trials(seed: u64) -> impl Iterator<Item = Job> {
     flags.flat_map(|flags| [Call::Count, Call::CountSingly].map(|call| Job::of_flags(call, NAME, flags.clone())))
 }
 
+/// Makes a table for a search, with any cells, few or many of them steps. Up to 64 states the archive searches in less room, so one table in four has
+/// about as many. The first state may be none.
+fn searched(r: &mut Random) -> Owned {
+    let states = if r.below(4) == 0 { 60 + r.below(10) } else { r.below(8) };
+    let mut t = Owned::new(states, u32::MAX, 0);
+    let rare = 1 + r.below(64);
+    for k in 0..t.cells.len() {
+        t.cells[k] = match r.below(rare) {
+            0 if r.below(8) == 0 => r.next() as u16,
+            0 => r.below(states + 1) as u16,
+            _ => NO_STEP,
+        };
+    }
+    t.initial = r.below(states + 1);
+    t
+}
+
+/// Makes a row longer or shorter by one.
+fn stretch<T>(r: &mut Random, row: &mut Vec<T>, entry: T) {
+    if r.below(2) == 0 {
+        row.push(entry);
+    } else {
+        row.pop();
+    }
+}
+
+/// Makes a search by any sets and flags; one in ten has too many or too few cells, marks, sets or flags.
+fn search_trial(r: &mut Random, call: Call) -> Job {
+    let mut job = Job::of_searched(call, NAME, vec![searched(r)]);
+    job.bytes = inputs::flags(r.next(), job.size);
+    job.sets = (0..job.size).map(|_| r.next() as u32).collect();
+    match r.below(40) {
+        0 => stretch(r, &mut job.tables[0].0.cells, 0),
+        1 => job.size += 1,
+        2 => stretch(r, &mut job.sets, 1),
+        3 => stretch(r, &mut job.bytes, 1),
+        _ => {}
+    }
+    job
+}
+
+/// Makes small searches, and one of the first number of states that is too large.
+fn search_trials(seed: u64, call: Call) -> impl Iterator<Item = Job> {
+    let mut r = Random(seed);
+    let small = (0..SEARCHES).map(move |_| search_trial(&mut r, call));
+    let large = move || Job::of_searched(call, NAME, vec![inputs::path(seed, 4097)]);
+    small.chain(std::iter::once_with(large))
+}
+
 /// The first pair count that is too large.
 fn too_many_pairs() -> Job {
     Job::of_pairs(Call::Fit, NAME, vec![inputs::chain(64, 65)])
@@ -168,5 +220,6 @@ pub fn all(seed: u64) -> impl Iterator<Item = Job> {
         5 => text_trial(&mut r, Call::List),
         _ => write_trial(&mut r),
     });
-    random.chain(count_trials(seed)).chain(std::iter::once_with(too_many_pairs))
+    let searches = [Call::Ends, Call::Reach].into_iter().flat_map(move |call| search_trials(seed, call));
+    random.chain(count_trials(seed)).chain(searches).chain(std::iter::once_with(too_many_pairs))
 }

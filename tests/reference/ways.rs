@@ -24,6 +24,7 @@ const ODD_FLAG: &str = "a reached state without a step, its flag above 1";
 const FIRST_DROPPED: &str = "the first state dropped, others with steps";
 const LOOP: &str = "a reached kept state with steps to itself alone";
 const LAST_STEP: &str = "a reached kept state with a step by signal 31 alone";
+const LARGE: &str = "more than 64 states";
 
 const ALL: &str = "all of several states marked";
 const NOT_ALL: &str = "a state not marked";
@@ -36,7 +37,7 @@ const NO_FIRST: &str = "no such first state";
 const ENTRIES: &str = "not one entry for each state";
 const CELLS: &str = "not 32 cells for each state";
 
-/// Lists numbers of states next to a bound: the bits of a word, and the most that there may be.
+/// Lists numbers of states next to a bound: the most in the smaller room, and the most that there may be.
 const SIZES: [usize; 5] = [63, 64, 65, MOST_STATES - 1, MOST_STATES];
 
 /// Counts what can be said of a table and its flags.
@@ -66,6 +67,7 @@ pub fn record_ends(tally: &mut Tally, origin: &str, table: &Table, flags: &[u8])
         (FIRST_DROPPED, flags[initial] == 0 && !moving.is_empty()),
         (LOOP, moving_kept().any(|state| steps(state).all(|signal| usize::from(row(state)[signal]) == state))),
         (LAST_STEP, moving_kept().any(|state| steps(state).eq([SIGNALS - 1]))),
+        (LARGE, states > 64),
     ];
     record(tally, origin, &outcomes);
 }
@@ -120,8 +122,8 @@ pub fn ask(tally: &mut Tally) {
         FIRST, NO_END, SEVERAL, BY_INPUT, BY_OUTPUT, BY_UNDECLARED, STRAY_CELL, UNREACHED, DROPPED, ODD_FLAG, FIRST_DROPPED, LOOP, LAST_STEP,
         ALL, NOT_ALL, OUTSIDE, STRAY_STEP, BY_LAST,
     ];
-    let of_yes = [FIRST, NO_END, SEVERAL, BY_INPUT, BY_OUTPUT, UNREACHED, LOOP, LAST_STEP, ALL, NOT_ALL, OUTSIDE, BY_LAST];
-    let of_none = [NO_END, UNREACHED, DROPPED, FIRST_DROPPED, NOT_ALL];
+    let of_yes = [FIRST, NO_END, SEVERAL, BY_INPUT, BY_OUTPUT, UNREACHED, LOOP, LAST_STEP, LARGE, ALL, NOT_ALL, OUTSIDE, BY_LAST];
+    let of_none = [NO_END, UNREACHED, DROPPED, FIRST_DROPPED, LARGE, NOT_ALL];
     for (origin, asked) in [(ANY, &of_any[..]), (YES, &of_yes), (NONE, &of_none)] {
         asked.iter().for_each(|what| tally.must_have_seen(&outcome(origin, what)));
     }

@@ -1,4 +1,3 @@
 pub mod Flags
 pub mod Cells
-pub mod Ends
 pub mod Words

@@ -5,7 +5,8 @@ ghost use Rattle.theory.specs.Checks.{first, tableChecks};
 ghost use Rattle.automaton.specs.Replies.{mirrorReply};
 ghost use Rattle.follower.specs.Replies.{followReply};
 ghost use Rattle.reach.specs.Marks.{reachedMarks};
-ghost use Rattle.counts.specs.Cells.{stepsIn, endsIn};
+ghost use Rattle.reach.specs.Ends.{endsIn};
+ghost use Rattle.counts.specs.Cells.{stepsIn};
 ghost use Rattle.replies.specs.Replies.{judged, mirrored, followed};
 ghost use Rattle.harness.specs.Tables.{tableOf};
 use replies::Reply;
@@ -115,7 +116,7 @@ pub extern "C" fn harness_count_ends(
         inputs,
         outputs,
     };
-    counts::count_ends(a, cells, flags)
+    reach::count_ends(a, cells, flags)
 }
 
 // Which states are reached from the first one by the actions of each state's set.

@@ -17,9 +17,10 @@ use Rattle.theory.proofs.Numbering.{pair-lt}
 use Rattle.reach.specs.Marks.{Searchable}
 use Rattle.emit.specs.Buffer.{stored, after}
 use Rattle.emit.proofs.Buffer.{Puts}
-use Rattle.counts.specs.Cells.{stepsIn, endsIn}
+use Rattle.reach.specs.Ends.{endsIn}
+use Rattle.reach.proofs.Ends.{ends-of-table}
+use Rattle.counts.specs.Cells.{stepsIn}
 use Rattle.counts.proofs.Cells.{steps-of-table}
-use Rattle.counts.proofs.Ends.{ends-of-table}
 use Rattle.synthesis.specs.declared.Synthesis.{Synthesis}
 use Rattle.synthesis.specs.declared.Synthesis.the-variants as made
 use Rattle.synthesis.specs.Replies.{verdict, decidedOf, synthesisReply, synthesisCells, synthesisFlags}

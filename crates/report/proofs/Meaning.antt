@@ -12,8 +12,8 @@ use lib.ListN.{length, getD, drop, replicate}
 use borrow.Author.Tests.{ne-eqb}
 use Rattle.theory.specs.declared.Checked.{Checked}
 use Rattle.theory.specs.declared.Checked.the-variants.{Accepted, Refused}
-use Rattle.theory.specs.Numbered.{interface}
-use Rattle.theory.specs.Reachability.{End, reached}
+use Rattle.theory.specs.Numbered.{interface, reached}
+use Rattle.theory.specs.Reachability.{End}
 use Rattle.theory.specs.Table.{Table, automaton, mirrorTable, cellsOf, composition, synthesis, controller, keptCount, stepCount, isEnd, endCount}
 use Rattle.theory.specs.Checks.{first, refuse, uncovered, eachTable, synthesisChecks}
 use Rattle.theory.specs.Demand.{Premises}
@@ -55,6 +55,9 @@ pub record Ends (a b : Table) : Type 0 where
   pub counted : (k : ℕ) → k < controller a b .header .states
       → T (isEnd (controller a b) (synthesis a b .flags) k)
       ↔ End (interface (automaton a)) (interface (automaton (mirrorTable b))) (k / b .header .states, k % b .header .states)
+  -- No end is left out: each has a number.
+  pub numbered : (y : ℕ × ℕ) → End (interface (automaton a)) (interface (automaton (mirrorTable b))) y
+      → (k : ℕ) × (k < controller a b .header .states) × ((k / b .header .states, k % b .header .states) ≡ y)
   -- Under yes every pair that is reached is kept, ..
   pub yes : T (synthesis a b .compatible) → (k : ℕ) → k < controller a b .header .states → T (reached 32 (automaton (controller a b)) k)
       → getD (synthesis a b .flags) k 0 ≡ 1
@@ -129,6 +132,7 @@ module _ (m p : List ℕ) (a b : Table) (cells flags : ℕ) where
       let w = mirror-valid b (v .specification) in
       let few : count ≤ 65535 = omega (arith, v .few-pairs) in record {
         counted = ends.end-counted a (mirrorTable b) (v .component) w few;
+        numbered = ends.end-numbered a (mirrorTable b) (v .component) w few;
         yes = ends.yes-kept a (mirrorTable b) (v .component) w few;
         none = ends.none-ended a (mirrorTable b) (v .component) w few;
       }
@@ -200,6 +204,9 @@ module _ (m p : List ℕ) (room : ℕ) where
       go Accepted q = record { component = x; specification = y; read = refl; accepted = q }
       go (Refused r) q = absurd (h (r .table) (r .number) 0 (rw q))
 
+  passed-printed : (j : Joint) (w : Passed m p room j) → printedOf j ≡ resultText m p (tableRead (w .component)) (tableRead (w .specification))
+  passed-printed j w = ap printedOf (w .read) ∙ rw (w .accepted)
+
   passed-made : {A : Type 0} (refused : A) (made : Reading → Reading → A) (j : Joint) (w : Passed m p room j)
       → byReading m p room (λ file number line. refused) made j ≡ made (w .component) (w .specification)
   passed-made refused made j w = ap (byReading m p room (λ file number line. refused) made) (w .read) ∙ rw (w .accepted)
@@ -221,18 +228,22 @@ module _ (m p cm cp cells flags : List ℕ) where
   unfolding reportText reportBuffers
   refused-leaves file number line e = line-refused m p room _ _ j file number line e
 
-  -- The cells of module and plan as read, and the maker's cells and flags; beyond these, cells and flags are as they were.
+  -- What is printed is the result's text, with figures that lose no digit and count what they say. The buffers hold the cells of module and plan as read,
+  -- and the maker's cells and flags; beyond these, cells and flags are as they were.
   pub record Done : Type 0 where
     pub component : Reading
     pub specification : Reading
     pub read : j ≡ both component specification
+    pub printed : text ≡ resultText m p (tableRead component) (tableRead specification)
+    pub small : Small (tableRead component) (tableRead specification)
+    pub ends : Ends (tableRead component) (tableRead specification)
     pub left : (let a = tableRead component in
         let b = tableRead specification in
         let n = controller a b .header .states in
         reportBuffers m p cm cp cells flags
         ≡ (component .cells, specification .cells, synthesis a b .cells ++ drop (n * 32) cells, synthesis a b .flags ++ drop n flags))
 
-  -- A report that is not the line of a refusal leaves the tables read and the maker's result.
+  -- A report that is not the line of a refusal prints the result, and leaves the tables read and the maker's result.
   pub result-leaves : ((file number line : ℕ) → text ≡ refusalText file number line → ⊥) → Done
   unfolding reportText reportBuffers
   result-leaves h =
@@ -249,4 +260,12 @@ module _ (m p cm cp cells flags : List ℕ) where
       stored-front cells (synthesis a b .cells) (omega arith) ∙ rw n in
       let f : stored flags 0 (synthesis a b .flags) ≡ synthesis a b .flags ++ drop (controller a b .header .states) flags =
       stored-front flags (synthesis a b .flags) (omega arith) ∙ rw k in
-      record { component = x; specification = y; read = w .read; left = passed-made m p room _ _ j w ∙ (λ i. (x .cells, y .cells, c i, f i)) }
+      record {
+        component = x;
+        specification = y;
+        read = w .read;
+        printed = passed-printed m p room j w;
+        small = figures-small m p a b (length cells) (length flags) (w .accepted);
+        ends = ends-mean m p a b (length cells) (length flags) (w .accepted);
+        left = passed-made m p room _ _ j w ∙ (λ i. (x .cells, y .cells, c i, f i));
+      }

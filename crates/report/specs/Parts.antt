@@ -10,7 +10,8 @@ use Rattle.theory.specs.declared.Checked.the-variants.{Accepted, Refused}
 use Rattle.theory.specs.Table.{Table, table, synthesis, keptCount}
 use Rattle.theory.specs.Checks.{first, unlessRefused}
 use Rattle.emit.specs.Buffer.{stored, after}
-use Rattle.counts.specs.Cells.{stepsIn, endsIn}
+use Rattle.reach.specs.Ends.{endsIn}
+use Rattle.counts.specs.Cells.{stepsIn}
 use Rattle.synthesis.specs.declared.Synthesis.{Synthesis}
 use Rattle.synthesis.specs.declared.Synthesis.the-variants as made
 use Rattle.printout.specs.Lines.{refusalText, figures}

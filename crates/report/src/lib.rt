@@ -36,7 +36,7 @@ fn six_lines(
 {
     let kept = counts::count_kept(flags);
     let steps = counts::count_steps(header.states, cells);
-    let ends = counts::count_ends(header, cells, flags);
+    let ends = reach::count_ends(header, cells, flags);
     printout::figures(out, compatible, header.states, kept, rounds, steps, ends)
 }
 

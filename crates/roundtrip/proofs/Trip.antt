@@ -10,7 +10,7 @@ use lib.ListN.{length, getD, replicate, length-replicate}
 use borrow.Author.Tests.{le-ltb}
 use Rattle.theory.specs.Table.{Table, table as tableOf}
 use Rattle.theory.specs.Checks.{declared}
-use Rattle.theory.proofs.Filled.{all-same}
+use Rattle.theory.proofs.Filled.{replicate-at}
 use Rattle.theory.proofs.Table.{table-narrow}
 use Rattle.text.specs.declared.Place.the-variants.{Head, Declarations}
 use Rattle.text.specs.declared.Spelling.{Spelling}
@@ -113,7 +113,7 @@ module _ (c : Spelling) (t : Table) (name : List ℕ) (names : List (List ℕ)) 
         header = refl;
         signals = refl;
         size = rw (u .cells) (length-replicate {A = ℕ} room 65535);
-        cells = put-nothing turn (cellIn names final) (cellOf t) 65535 (Good t) (λ i. rw (u .cells) (all-same room i 65535));
+        cells = put-nothing turn (cellIn names final) (cellOf t) 65535 (Good t) (λ i. rw (u .cells) (replicate-at room i 65535));
       }))
 
   copied : Reaches c text (tableRow t name ∷ map (signalRow t names) (signals t) ++ stepRows t names 0 (t .header .states)) 0 (fresh l room) (Copy t names final)

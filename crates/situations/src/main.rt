@@ -44,7 +44,7 @@ fn say_controller(header: Automaton, rounds: usize, cells: &[u16], flags: &[u8])
     say_line(b"kept ", counts::count_kept(flags));
     say_line(b"rounds ", rounds);
     say_line(b"steps ", counts::count_steps(header.states, cells));
-    say_line(b"ends ", counts::count_ends(header, cells, flags));
+    say_line(b"ends ", reach::count_ends(header, cells, flags));
     say_line(b"first ", header.initial);
     say_line(b"inputs ", header.inputs as usize);
     say_line(b"outputs ", header.outputs as usize);

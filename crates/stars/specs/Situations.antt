@@ -114,7 +114,7 @@ start = 2
 abbrev read : ℕ
 read = 3
 
-abbrev ref : Table
+abbrev pub ref : Table
 ref = written 3 (power ∷ []) (settled ∷ []) ((0, power, 1) ∷ (1, settled, 2) ∷ [])
 
 -- ref with a further step.
@@ -128,7 +128,7 @@ abbrev hasty : Table
 hasty = written 3 (settled ∷ []) (power ∷ read ∷ []) ((0, power, 1) ∷ (1, read, 2) ∷ [])
 
 -- The plan of the run; one that waits; one that asks for power twice.
-abbrev plan : Table
+abbrev pub plan : Table
 plan = written 5 (start ∷ []) (power ∷ settled ∷ read ∷ []) ((0, start, 1) ∷ (1, power, 2) ∷ (2, settled, 3) ∷ (3, read, 4) ∷ [])
 
 abbrev waiting : Table

@@ -19,7 +19,7 @@ use Rattle.theory.specs.Checks.{declared}
 use Rattle.theory.specs.Valid.{Valid}
 use Rattle.theory.proofs.Tests.{or-cases, or-left, or-right}
 use Rattle.theory.proofs.Options.{when-of}
-use Rattle.theory.proofs.Filled.{all-same}
+use Rattle.theory.proofs.Filled.{replicate-at}
 use Rattle.theory.proofs.Table.{table-narrow}
 use Rattle.text.specs.declared.Place.the-variants.{Head, Declarations}
 use Rattle.text.specs.declared.Role.{Role}
@@ -82,7 +82,7 @@ module _ (l : List Signal) (room : ℕ) where
         lists = record { inputs = omega arith; outputs = omega arith; disjoint = λ a t. absurd (rw (member-none a) at t) };
         fits = omega (arith, u .room);
         size = size;
-        steps = λ k. inl (all-same room k 65535);
+        steps = λ k. inl (replicate-at room k 65535);
         more = [];
         extends = sym (append-nil l);
         few-signals = few;

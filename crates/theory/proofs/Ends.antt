@@ -11,8 +11,8 @@ use lib.ListN.{getD}
 use Rattle.theory.specs.Interface.{InterfaceAutomaton, compose}
 use Rattle.theory.specs.Bounded.{any}
 use Rattle.theory.specs.Closure.{isSome}
-use Rattle.theory.specs.Numbered.{interface, WellFormed, pair}
-use Rattle.theory.specs.Reachability.{Reachable, start, onward, End, reached}
+use Rattle.theory.specs.Numbered.{interface, WellFormed, reached, pair}
+use Rattle.theory.specs.Reachability.{Reachable, start, onward, End}
 use Rattle.theory.specs.Table.{Table, automaton, decode, cellAt, composition, composedTable, isEnd, endCount}
 use Rattle.theory.specs.Valid.{Valid}
 use Rattle.theory.proofs.Tests.{and-left, and-right, and-both}
@@ -28,7 +28,7 @@ pub step-below : (t : Table) (s a u : ℕ) → automaton t .next s a ≡ some u 
 step-below t s a u e = ltb→lt a 32 (when-of (ltb a 32) (decode (t .header .states) (cellAt t s a)) e .0)
 
 -- A state without a step, computed.
-pub final-of : (t : Table) (s : ℕ) → T (not (any 32 (λ a. isSome (automaton t .next s a)))) ↔ ((a u : ℕ) → ¬ (automaton t .next s a ≡ some u))
+final-of : (t : Table) (s : ℕ) → T (not (any 32 (λ a. isSome (automaton t .next s a)))) ↔ ((a u : ℕ) → ¬ (automaton t .next s a ≡ some u))
 final-of t s = (
   (λ f a u e. T-not (any 32 stepBy) f (at-any 32 stepBy a (step-below t s a u e) (some-is (automaton t .next s a) (u, e)))),
   (λ f. not-T (any 32 stepBy) λ h.
@@ -60,16 +60,16 @@ module _ (p q : Table) (vp : Valid p) (vq : Valid q) (few : p .header .states * 
   abbrev at : ℕ → ℕ × ℕ
   at k = (k / n, k % n)
 
-  some-plan : 0 < n
-  some-plan = omega (arith, vq .initial)
+  some-state : 0 < n
+  some-state = omega (arith, vq .initial)
 
   w : WellFormed (automaton t)
   unfolding composition
-  w = table-well-formed t (pair-lt m n some-plan (vp .initial) (vq .initial))
+  w = table-well-formed t (pair-lt m n some-state (vp .initial) (vq .initial))
 
   initial-at : at (automaton t .initial) ≡ (p .header .initial, q .header .initial)
   unfolding composition
-  initial-at = split-pair m n some-plan (p .header .initial) (q .header .initial) (vq .initial)
+  initial-at = split-pair m n some-state (p .header .initial) (q .header .initial) (vq .initial)
 
   abbrev Path : ℕ → Type 0
   Path = Reachable (interface (automaton t)) (automaton t .initial)
@@ -133,6 +133,10 @@ module _ (p q : Table) (vp : Valid p) (vq : Valid q) (few : p .header .states * 
 
       final : Bool
       final = not (any 32 (λ a. isSome (automaton t .next k a)))
+
+  -- Every end is a pair of a number, so no end is left out of the count.
+  pub end-numbered : (y : ℕ × ℕ) → End X Y y → (k : ℕ) × (k < m * n) × (at k ≡ y)
+  end-numbered y e = let (k, l, _, q) = path-composed y (e .reachable) in (k, l, q)
 
   -- Under yes every pair that is reached is kept, ..
   pub yes-kept : T (composition p q .compatible) → (k : ℕ) → k < m * n → T (reached 32 (automaton t) k) → getD (composition p q .flags) k 0 ≡ 1

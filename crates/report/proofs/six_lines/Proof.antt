@@ -2,12 +2,6 @@ use Rattle.report.proofs.Made.{six-put}
 use borrow.Author.Needs.{needs}
 use Rattle.report.proofs.six_lines.Statement.{statement}
 use Rattle.report.proofs.six_lines.Tie as tie
-use Rattle.report.proofs.six_lines.Reads as reads
-use Rattle.report.proofs.six_lines.Lts as lts
-use Rattle.counts.proofs.count_ends.Reads as count-ends-reads
-use Rattle.counts.proofs.count_kept.Reads as count-kept-reads
-use Rattle.counts.proofs.count_steps.Reads as count-steps-reads
-use Rattle.printout.proofs.figures.Reads as figures-reads
 
 count-kept-requires : tie.Need-count-kept-requires
 count-kept-requires c κs = search needs
