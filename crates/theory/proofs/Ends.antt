@@ -6,26 +6,22 @@ use mathlib.Core.Option.{some}
 use Prim.Native.Nat.{ℕ, _*_, _/_, _%_, _<_, _≤_}
 use native.Mathlib.Nat.{div-add-mod'}
 use native.Mathlib.Omega.{arith}
-use lib.Dec.{T, eqb, ltb, ltb→lt, eqb→eq, T-not, not-T}
+use lib.Dec.{T, eqb, eqb→eq, T-not, not-T}
 use lib.ListN.{getD}
 use Rattle.theory.specs.Interface.{InterfaceAutomaton, compose}
 use Rattle.theory.specs.Bounded.{any}
 use Rattle.theory.specs.Closure.{isSome}
 use Rattle.theory.specs.Numbered.{interface, WellFormed, reached, pair}
 use Rattle.theory.specs.Reachability.{Reachable, start, onward, End}
-use Rattle.theory.specs.Table.{Table, automaton, decode, cellAt, composition, composedTable, isEnd, endCount}
+use Rattle.theory.specs.Table.{Table, automaton, composition, composedTable, isEnd, endCount}
 use Rattle.theory.specs.Valid.{Valid}
 use Rattle.theory.proofs.Tests.{and-left, and-right, and-both}
 use Rattle.theory.proofs.Bounded.{any-at, at-any, count-none}
-use Rattle.theory.proofs.Options.{is-some, some-is, when-of}
+use Rattle.theory.proofs.Options.{is-some, some-is}
 use Rattle.theory.proofs.Reachability.{reached-path, reached-kept, no-end}
 use Rattle.theory.proofs.Numbering.{pair-lt, split-pair}
-use Rattle.theory.proofs.Table.{table-well-formed}
+use Rattle.theory.proofs.Table.{step-below, table-well-formed}
 use Rattle.theory.proofs.Verdicts.{composition-cells, flag-compatible, compatible-tables}
-
--- A step's action is one of 32.
-pub step-below : (t : Table) (s a u : ℕ) → automaton t .next s a ≡ some u → a < 32
-step-below t s a u e = ltb→lt a 32 (when-of (ltb a 32) (decode (t .header .states) (cellAt t s a)) e .0)
 
 -- A state without a step, computed.
 final-of : (t : Table) (s : ℕ) → T (not (any 32 (λ a. isSome (automaton t .next s a)))) ↔ ((a u : ℕ) → ¬ (automaton t .next s a ≡ some u))
