@@ -1,5 +1,5 @@
-// Calls on one interface automaton (document 01: table): judging, mirroring and clearing; the checks that the follower and the calls on two begin with;
-// and refusals: all are made here, and told in numbers for C.
+// Calls on one interface automaton (document 01: table): judge, mirror and clear; the checks that the monitor, the writer and the calls on two
+// begin with; and refusals, which are all made here, and turned into numbers for C.
 ghost use mathlib.Core.Path.{_≡_};
 ghost use mathlib.Core.Bool.{_&&_};
 ghost use Prim.Native.Nat.{ℕ};
@@ -18,14 +18,14 @@ use theory::Checked;
 use theory::Location;
 use theory::Refusal;
 
-// The mirror's numbers; its cells are the automaton's own.
+// Reply of `mirror`: the header of the mirror, whose cells are those of the automaton; or a refusal.
 pub enum Mirrored {
     Mirror(Automaton),
     Refused(Refusal),
 }
 
-// A refusal in numbers, for replies that hold no enum (C's): why, of which table, whether a cell is named, and which. All is 0 where nothing is refused,
-// and the cell's numbers are where none is named.
+// A refusal in plain numbers, for C: its number, the table at fault, whether it names a cell, and the state and action of that cell. All fields are
+// 0 (false) if nothing is refused; state and action are 0 if no cell is named.
 pub struct Status {
     pub number: u32,
     pub table: u32,
@@ -34,7 +34,7 @@ pub struct Status {
     pub action: usize,
 }
 
-// Makes every refusal, those of the calls on two automata too.
+// Makes a refusal with its location. Every refusal of a call on tables is made here.
 pub fn refusal_at(number: u32, table: u32, location: Location) -> Refusal
     ensures { λ r. ⌜ r ≡ record { number = number; table = table; location = location } ⌝ }
 {
@@ -45,14 +45,14 @@ pub fn refusal_at(number: u32, table: u32, location: Location) -> Refusal
     }
 }
 
-// Makes a refusal that names no cell: document 02's numbers from 7 on.
+// Makes a refusal that names no cell: those with a number from 7 on (document 02, S-2).
 pub fn refusal(number: u32, table: u32) -> Refusal
     ensures { λ r. ⌜ r ≡ record { number = number; table = table; location = Nowhere } ⌝ }
 {
     refusal_at(number, table, Location::Nowhere)
 }
 
-// Turns a call away by a number from 7 on.
+// Refuses a call by a number from 7 on, so without a cell.
 pub fn refuse(number: u32, table: u32) -> Checked
     ensures { λ r. ⌜ r ≡ refused number table ⌝ }
 {
@@ -77,7 +77,7 @@ fn refuse_table(number: u32, table: u32) -> Checked
     refuse_cell(number, table, 0)
 }
 
-// Gives a refusal that names no cell in numbers.
+// Turns a refusal that names no cell into a status.
 pub fn status_nowhere(number: u32, table: u32) -> Status
     ensures { λ r. ⌜ r ≡ statusNowhere number table ⌝ }
 {
@@ -90,14 +90,14 @@ pub fn status_nowhere(number: u32, table: u32) -> Status
     }
 }
 
-// Says in numbers that nothing is refused.
+// Returns the status of a call that is not refused.
 pub fn accepted() -> Status
     ensures { λ r. ⌜ r ≡ acceptedStatus ⌝ }
 {
     status_nowhere(0, 0)
 }
 
-// Gives a refusal in numbers.
+// Turns a refusal into a status.
 pub fn status_of(why: Refusal) -> Status
     ensures { λ r. ⌜ r ≡ statusOf why ⌝ }
 {
@@ -114,7 +114,7 @@ pub fn status_of(why: Refusal) -> Status
     }
 }
 
-// The actions of both lists.
+// Returns the declared actions: inputs and outputs together.
 pub fn declared(a: Automaton) -> u32
     ensures { λ r. ⌜ r ≡ bitOr (a .inputs) (a .outputs) ⌝ }
 {
@@ -128,7 +128,7 @@ fn overlap(s: u32, t: u32) -> bool
     sets::size(s & t) != 0
 }
 
-// Checks 1 to 4, those that look at no cell; `cells` is how many there are.
+// Runs checks 1 to 4, which look at no cell; `cells` is the number of cells, and a refusal names the table `number`.
 pub fn check_shape(a: Automaton, cells: usize, number: u32) -> Checked
     ensures { λ r. ⌜ r ≡ first (take 4 (tableChecks number (stepless a cells))) ⌝ }
 {
@@ -150,7 +150,7 @@ pub fn check_shape(a: Automaton, cells: usize, number: u32) -> Checked
     Checked::Accepted
 }
 
-// Checks 1 to 6 of the automaton that a refusal is to call `number`.
+// Runs checks 1 to 6; a refusal names the table `number`.
 pub fn check(a: Automaton, cells: &[u16], number: u32) -> Checked
     ensures { λ r. ⌜ r ≡ first (tableChecks number (table a (now (cells .entry)))) ⌝ }
 {
@@ -164,14 +164,14 @@ pub fn check(a: Automaton, cells: &[u16], number: u32) -> Checked
     }
 }
 
-// Judges one automaton.
+// Judges one automaton by checks 1 to 6; a refusal names table 1.
 pub fn judge(a: Automaton, cells: &[u16]) -> Checked
     ensures { λ r. ⌜ r ≡ first (tableChecks 1 (table a (now (cells .entry)))) ⌝ }
 {
     check(a, cells, 1)
 }
 
-// The numbers with the two lists exchanged. The sequencer maker mirrors plan and outcome by it: their checks are others than mirror's.
+// Exchanges inputs and outputs, and checks nothing. The sequencer maker mirrors plan and result by it: its checks are not those of `mirror`.
 pub fn exchange(a: Automaton) -> Automaton
     ensures { λ r. ⌜ r ≡ mirrorHeader a ⌝ }
 {
@@ -183,7 +183,7 @@ pub fn exchange(a: Automaton) -> Automaton
     }
 }
 
-// Exchanges the two lists.
+// Mirrors an automaton: exchanges inputs and outputs if checks 1 to 6 pass.
 pub fn mirror(a: Automaton, cells: &[u16]) -> Mirrored
     ensures { λ r. ⌜ r ≡ mirrorReply (table a (now (cells .entry))) ⌝ }
 {
@@ -193,7 +193,7 @@ pub fn mirror(a: Automaton, cells: &[u16]) -> Mirrored
     }
 }
 
-// Leaves a table without steps: every cell is 65,535.
+// Removes every step: sets all cells to 65,535.
 pub fn clear(cells: &mut [u16])
     ensures { λ _. ⌜ now (cells .exit) ≡ replicate (length (now (cells .entry))) 65535 ⌝ }
 {

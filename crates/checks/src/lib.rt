@@ -1,4 +1,4 @@
-// The checks of the calls on two automata, in document 01's order: 1 to 6 of the first, then of the second, then what concerns both.
+// Checks of the calls on two automata, in document 01's order: 1 to 6 on the first, then on the second, then those that concern both.
 ghost use mathlib.Core.Path.{_≡_};
 ghost use Prim.Native.Nat.{_*_, _≤_};
 ghost use Rattle.theory.specs.Table.{table};
@@ -14,7 +14,7 @@ enum Room {
     Both(usize, usize),
 }
 
-// 1 to 6 of each. The sequencer maker makes them where its check 8 applies.
+// Runs checks 1 to 6 on the first automaton, then on the second. The sequencer maker calls it to see whether one of these comes before its 8.
 pub fn each(a: Automaton, ca: &[u16], b: Automaton, cb: &[u16]) -> Checked
     ensures { λ r. ⌜ r ≡ first (eachTable (table a (now (ca .entry))) (table b (now (cb .entry)))) ⌝ }
 {
@@ -71,21 +71,21 @@ fn composable(a: Automaton, ca: &[u16], b: Automaton, cb: &[u16], room: Room) ->
     sizes(a.states, b.states, room)
 }
 
-// The checks of product; `cells` is the length of its buffer.
+// Runs the checks of product: 1 to 6 on each, 7, 9, 10; `cells` is the length of its buffer.
 pub fn product(a: Automaton, ca: &[u16], b: Automaton, cb: &[u16], cells: usize) -> Checked
     ensures { λ r. ⌜ r ≡ first (productChecks (table a (now (ca .entry))) (table b (now (cb .entry))) cells) ⌝ }
 {
     composable(a, ca, b, cb, Room::Cells(cells))
 }
 
-// The checks of fit.
+// Runs the checks of compatibility (document 01: fit): 1 to 6 on each, 7, 9, 10; `flags` is the length of its buffer.
 pub fn compatibility(a: Automaton, ca: &[u16], b: Automaton, cb: &[u16], flags: usize) -> Checked
     ensures { λ r. ⌜ r ≡ first (compatibilityChecks (table a (now (ca .entry))) (table b (now (cb .entry))) flags) ⌝ }
 {
     composable(a, ca, b, cb, Room::Bytes(flags))
 }
 
-// The checks of compose.
+// Runs the checks of composition: 1 to 6 on each, 7, 9, 10; `cells` and `flags` are the lengths of its buffers.
 pub fn composition(
     a: Automaton,
     ca: &[u16],
@@ -99,7 +99,7 @@ pub fn composition(
     composable(a, ca, b, cb, Room::Both(cells, flags))
 }
 
-// The checks of refine: neither 7 nor 8.
+// Runs the checks of refinement: 1 to 6 on each, 9, 10, but neither 7 nor 8; `marks` is the length of its buffer.
 pub fn refinement(a: Automaton, ca: &[u16], b: Automaton, cb: &[u16], marks: usize) -> Checked
     ensures { λ r. ⌜ r ≡ first (refinementChecks (table a (now (ca .entry))) (table b (now (cb .entry))) marks) ⌝ }
 {

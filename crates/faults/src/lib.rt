@@ -1,4 +1,4 @@
-// Checks 5 and 6 (document 01, "A table"): a walk over the cells, row by row, to the first at fault; for check 5, then for check 6.
+// Runs checks 5 and 6 (document 01, "A table") over all cells, row by row: finds the first cell at fault by check 5, or else the first by check 6.
 ghost use mathlib.Core.Path.{_≡_};
 ghost use Prim.Native.Nat.{_/_, _<_, min};
 ghost use lib.ListN.{length};
@@ -6,7 +6,7 @@ ghost use Rattle.theory.specs.Bounded.{any, tabulate};
 ghost use Rattle.theory.specs.Checks.{stray as strayOf};
 ghost use Rattle.faults.specs.Cells.{fault as faultOf, limit as limitOf, strayIn, SoundBefore, Ended, firstFault};
 
-// What the walks find: the check that applies, 5 or 6, and the index of the first cell at fault by it.
+// Result of `find`: the check that applies, 5 or 6, and the index of the first cell at fault by it; or nothing.
 pub enum Finding {
     Fault { check: u32, cell: usize },
     Nothing,
@@ -113,8 +113,8 @@ fn walk(six: bool, cells: &[u16], states: u16, acts: u32, below: &[u16], start: 
     Walked { at, row: noted }
 }
 
-// Finds the first cell at fault in the whole rows of 32 cells, by check 5 if there is one, else by check 6, whose walk begins where check 5's met its first
-// unsound row: one pass is enough for a sound table. Cells beyond the last whole row do not matter.
+// Finds the first cell at fault by check 5, or else the first by check 6, among whole rows of 32 cells; `acts` has the actions of both lists. A
+// sound table takes one pass: the walk for check 5 notes the first row at fault by either check, and check 6 begins there.
 pub fn find(cells: &[u16], states: u16, acts: u32) -> Finding
     ensures { λ r. ⌜ r ≡ firstFault states acts (now (cells .entry)) ⌝ }
 {

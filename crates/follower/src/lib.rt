@@ -1,4 +1,4 @@
-// The monitor (document 01: the follower): one step of it, and the two parts of a step, for callers that hold the cells otherwise.
+// The monitor (document 01: follower): one step, and the two parts of a step for callers that hold the cells in another form.
 ghost use mathlib.Core.Path.{_≡_};
 ghost use lib.ListN.{take};
 ghost use Rattle.theory.specs.Table.{table};
@@ -10,14 +10,14 @@ use theory::Checked;
 use theory::Location;
 use theory::Refusal;
 
-// The monitor's reply (document 01: the follower's): where it moved to, "not now", or a refusal.
+// Reply of the monitor: the state it moved to, "not now", or a refusal.
 pub enum Followed {
     Moved(usize),
     NotNow,
     Refused(Refusal),
 }
 
-// The monitor's checks before it reads a cell: 1 to 4, 11, 12; `cells` is how many there are.
+// Runs the checks of the monitor that read no cell: 1 to 4, 11, 12; `cells` is the number of cells.
 pub fn check_position(a: Automaton, cells: usize, state: usize, action: usize) -> Checked
     ensures { λ r. ⌜ r ≡ first (take 6 (monitorChecks 1 (stepless a cells) state action)) ⌝ }
 {
@@ -34,7 +34,7 @@ pub fn check_position(a: Automaton, cells: usize, state: usize, action: usize) -
     Checked::Accepted
 }
 
-// What the monitor's own cell, at a state and for an action, says: a step, none, or check 5.
+// Turns the cell of a state and an action into the reply of the monitor: a move, "not now" for no step, or refusal 5, which names this cell.
 pub fn advance(cell: u16, states: usize, state: usize, action: usize) -> Followed
     ensures { λ r. ⌜ r ≡ ownReply states state action cell ⌝ }
 {
@@ -48,7 +48,7 @@ pub fn advance(cell: u16, states: usize, state: usize, action: usize) -> Followe
     Followed::Refused(automaton::refusal_at(5, 1, Location::Cell { state, action }))
 }
 
-// One step of the monitor: checks 1 to 4, 11, 12, then 5 of its own cell.
+// Makes one step of the monitor: runs checks 1 to 4, 11 and 12, then 5 on the one cell of the state and the action.
 pub fn follow(a: Automaton, cells: &[u16], state: usize, action: usize) -> Followed
     ensures { λ r. ⌜ r ≡ followReply (table a (now (cells .entry))) state action ⌝ }
 {

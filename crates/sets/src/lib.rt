@@ -1,4 +1,4 @@
-// Action sets held in 32 bits (document 01, "A table"): counted, and visited lowest member first.
+// Action sets held in 32 bits, action a in bit a (document 01, "A table"): counted, and visited lowest member first.
 ghost use mathlib.Core.Path.{_≡_};
 ghost use mathlib.Core.Bool.{not, _&&_, cond};
 ghost use Prim.Native.Nat.{ℕ, _-_, _^_};
@@ -9,14 +9,14 @@ ghost use Rattle.theory.specs.Bounded.{any, count};
 ghost use Rattle.theory.specs.Sets.{has, difference as without};
 ghost use Rattle.theory.specs.Table.{member};
 
-// How many members the set has.
+// Counts the members.
 pub fn size(s: u32) -> u32
     ensures { λ r. ⌜ r ≡ count 32 (has s) ⌝ }
 {
     u32::count_ones(s)
 }
 
-// Whether the action is a member.
+// Tells whether the action is a member.
 pub fn contains(s: u32, action: usize) -> bool
     ensures { λ r. ⌜ r ≡ member s action ⌝ }
 {
@@ -26,7 +26,7 @@ pub fn contains(s: u32, action: usize) -> bool
     (s >> action as u32) % 2 == 1
 }
 
-// The set with the action; an action from 32 up is no member of any set.
+// Adds the action; an action above 31 changes nothing.
 pub fn insert(s: u32, action: usize) -> u32
     ensures { λ r. ⌜ r ≡ cond (ltb action 32) (bitOr s (2 ^ action)) s ⌝ }
 {
@@ -36,21 +36,21 @@ pub fn insert(s: u32, action: usize) -> u32
     s | (1u32 << action as u32)
 }
 
-// The lowest member; 32 if there is none.
+// Finds the lowest member; 32 if the set is empty.
 pub fn lowest(s: u32) -> u32
     ensures { λ r. ⌜ r ≡ trailingZeros 32 s ⌝ }
 {
     u32::trailing_zeros(s)
 }
 
-// How many binary digits the set has without its leading zeros: every member is below.
+// Returns one more than the highest member; 0 if the set is empty.
 pub fn width(s: u32) -> u32
     ensures { λ r. ⌜ r ≡ 32 - leadingZeros 32 s ⌝ }
 {
     32 - u32::leading_zeros(s)
 }
 
-// The set without its lowest member.
+// Removes the lowest member; the empty set stays empty.
 pub fn rest(s: u32) -> u32
     ensures { λ r. ⌜ r ≡ s - 2 ^ trailingZeros 32 s ⌝ }
 {
@@ -60,21 +60,21 @@ pub fn rest(s: u32) -> u32
     s - (1u32 << u32::trailing_zeros(s))
 }
 
-// The members of s that are not in t.
+// Returns the members of s that are not in t.
 pub fn difference(s: u32, t: u32) -> u32
     ensures { λ r. ⌜ r ≡ without s t ⌝ }
 {
     s ^ (s & t)
 }
 
-// Whether some action is in both sets.
+// Tells whether some action is in both sets.
 pub fn intersects(s: u32, t: u32) -> bool
     ensures { λ r. ⌜ r ≡ any 32 (λ (a : ℕ). member s a && member t a) ⌝ }
 {
     s & t != 0
 }
 
-// Whether every member of s is in t.
+// Tells whether every member of s is in t.
 pub fn is_subset(s: u32, t: u32) -> bool
     ensures { λ r. ⌜ r ≡ not (any 32 (λ (a : ℕ). member s a && not (member t a))) ⌝ }
 {
