@@ -1,5 +1,6 @@
-// Lines of table text (document 01, "Table text") put into a buffer one after the other. A text that does not fit is cut off at the buffer's
-// end, and the place after it is then one past that end: so no call has to look whether those before it had room.
+// Puts parts, numbers and lines of table text (document 01, "Table text") into a buffer, from a place on. Each call returns the place after what it
+// put. Text that does not fit is cut off at the end of the buffer, and the place returned is then one past that end: so no call has to ask whether
+// those before it had room.
 ghost use mathlib.Core.Path.{_≡_};
 ghost use mathlib.Core.List.{[], _∷_, _++_};
 ghost use Prim.Native.Nat.{_+_, _%_, _≤_, _<_};
@@ -19,7 +20,7 @@ fn copy(d: &mut [u8], at: usize, s: &[u8])
     }
 }
 
-// A part, from the place `at` on. Each call here returns the place after what it put.
+// Puts the bytes of s.
 pub fn put(d: &mut [u8], at: usize, s: &[u8]) -> usize
     ensures { λ r. ⌜ r ≡ after (length (now (d .entry))) at (now (s .entry)) ⌝ }
     ensures { λ r. ⌜ now (d .exit) ≡ stored (now (d .entry)) at (now (s .entry)) ⌝ }
@@ -36,7 +37,7 @@ pub fn put(d: &mut [u8], at: usize, s: &[u8]) -> usize
     at + s.len()
 }
 
-// A field, and the byte that ends it: a tab, or the line's LF.
+// Puts a field and the byte that ends it: a tab, or the LF of the line.
 pub fn field(d: &mut [u8], at: usize, s: &[u8], end: u8) -> usize
     ensures { λ r. ⌜ r ≡ after (length (now (d .entry))) at (now (s .entry) ++ end ∷ []) ⌝ }
     ensures { λ r. ⌜ now (d .exit) ≡ stored (now (d .entry)) at (now (s .entry) ++ end ∷ []) ⌝ }
@@ -53,7 +54,7 @@ fn digit(n: usize) -> u8
     48 + (n % 10) as u8
 }
 
-// How many digits a number has; of one from 100,000 on the last five are put.
+// Counts the digits that `number` puts: five at most.
 pub fn width(n: usize) -> usize
     ensures { λ r. ⌜ r ≡ length (decimal n) ⌝ }
 {
@@ -86,7 +87,7 @@ fn digits(d: &mut [u8], n: usize)
     }
 }
 
-// A field that is a number.
+// Puts a decimal number as a field, with the byte that ends it; of a number from 100,000 on only the last five digits.
 pub fn number(d: &mut [u8], at: usize, n: usize, end: u8) -> usize
     ensures { λ r. ⌜ r ≡ after (length (now (d .entry))) at (decimal n ++ end ∷ []) ⌝ }
     ensures { λ r. ⌜ now (d .exit) ≡ stored (now (d .entry)) at (decimal n ++ end ∷ []) ⌝ }
@@ -97,7 +98,7 @@ pub fn number(d: &mut [u8], at: usize, n: usize, end: u8) -> usize
     field(d, at, &five[0..w], end)
 }
 
-// The `table` line.
+// Puts the `table` line.
 pub fn table_line(d: &mut [u8], at: usize, name: &[u8], states: usize, initial: usize) -> usize
     ensures { λ r. ⌜ r ≡ after (length (now (d .entry))) at (tableText (now (name .entry)) states initial) ⌝ }
     ensures { λ r. ⌜ now (d .exit) ≡ stored (now (d .entry)) at (tableText (now (name .entry)) states initial) ⌝ }
@@ -108,7 +109,7 @@ pub fn table_line(d: &mut [u8], at: usize, name: &[u8], states: usize, initial: 
     number(d, k, initial, 10)
 }
 
-// The declaration of a signal.
+// Puts the line that declares a signal, as an input or as an output.
 pub fn signal_line(d: &mut [u8], at: usize, input: bool, name: &[u8]) -> usize
     ensures { λ r. ⌜ r ≡ after (length (now (d .entry))) at (signalText input (now (name .entry))) ⌝ }
     ensures { λ r. ⌜ now (d .exit) ≡ stored (now (d .entry)) at (signalText input (now (name .entry))) ⌝ }
@@ -171,7 +172,7 @@ fn has_room(bytes: usize, at: usize, name: usize) -> bool
     name <= room - 18
 }
 
-// The line of a step. Nearly all of a text is such lines, so they are asked for room once and not field by field.
+// Puts the line of a step. Nearly all lines of a text are steps, so it asks for room once and not field by field.
 pub fn step_line(d: &mut [u8], at: usize, from: usize, name: &[u8], to: usize) -> usize
     ensures { λ r. ⌜ r ≡ after (length (now (d .entry))) at (stepText from (now (name .entry)) to) ⌝ }
     ensures { λ r. ⌜ now (d .exit) ≡ stored (now (d .entry)) at (stepText from (now (name .entry)) to) ⌝ }

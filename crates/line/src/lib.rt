@@ -1,4 +1,4 @@
-// A line of table text taken apart (document 01, "Table text"): the fields of its record, or the number of its refusal.
+// Takes a line of table text apart (document 01, "Table text"): gives the fields of its record, or the number of its refusal.
 ghost use mathlib.Core.Path.{_≡_};
 ghost use Prim.Native.Nat.{_+_, _≤_};
 ghost use lib.ListN.{length, drop};
@@ -12,8 +12,8 @@ use text::Role;
 
 mod quick;
 
-// A step's name stands from the byte `start` of the line on, before the byte `end`; a declared name from the byte `name_start` on, to the
-// end of the line.
+// Fields of a line. The name of a step stands in the line from the byte `start` on and before the byte `end`; a declared name from the byte
+// `name_start` on, to the end of the line.
 pub enum Record {
     Table {
         states: usize,
@@ -28,13 +28,13 @@ pub enum Record {
     },
 }
 
-// A line's record and its length without the LF, or the number of its refusal.
+// Reply of `parse`: the record of a line and its length without the LF; or the number of its refusal.
 pub enum Line {
     Taken(Record, usize),
     Refused(u32),
 }
 
-// The same of a line by itself.
+// The record of a line that is given without its LF; or the number of its refusal.
 pub enum Parsed {
     Fields(Record),
     Refused(u32),
@@ -60,7 +60,7 @@ enum Judged {
     Bad(u32),
 }
 
-// Where a declared name begins in its line.
+// Returns the byte of a declaration at which the name begins.
 pub fn name_start(role: Role) -> usize
     ensures { λ r. ⌜ r ≡ length (roleWord role) + 1 ⌝ }
 {
@@ -258,8 +258,8 @@ fn parse_any(s: &[u8], place: Place) -> Line
     of_length(says(scan::before(s, length), place), length)
 }
 
-// What the first line of a text says at its place: 14 where it lacks its LF. Where a step may stand, most lines are steps without a fault, and are
-// taken apart in one pass.
+// Takes apart the first line of s, by the kinds that may stand at `place`; refuses it by 14 if it lacks its LF. Where a step may stand, most lines
+// are steps without a fault, and these are taken apart in one pass.
 pub fn parse(s: &[u8], place: Place) -> Line
     ensures { λ r. ⌜ r ≡ firstLine place (now (s .entry)) ⌝ }
 {

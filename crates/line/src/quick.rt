@@ -1,4 +1,4 @@
-// A step line that keeps every rule, taken apart in one pass over its bytes: nearly all lines of a text are such. Any other line is left to the
+// Takes apart a step line that keeps every rule, in one pass over its bytes: nearly all lines of a text are such. Any other line is left to the
 // functions that know the order of the refusals.
 ghost use mathlib.Core.Path.{_≡_};
 ghost use Rattle.line.specs.OnePass.{Digits, Letters, numberTold, nameTold, stepTold};
@@ -15,7 +15,7 @@ enum Named {
     Other,
 }
 
-// A step as in a record. The line's LF is its byte `length`.
+// Fields of a step, as in `Record`, and the length of its line without the LF; or `Other` for any other line.
 pub enum Quick {
     Step {
         from: usize,
@@ -106,7 +106,7 @@ fn name_before(s: &[u8], end: u8) -> Named
     Named::Other
 }
 
-// The step line at the start of s.
+// Takes apart the step line at the start of s; gives `Other` if there is none that keeps every rule.
 pub fn step_line(s: &[u8]) -> Quick
     ensures { λ r. ⌜ stepTold (now (s .entry)) r ⌝ }
 {

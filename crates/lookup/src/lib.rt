@@ -1,5 +1,5 @@
-// The name of a signal by its number, handed back as a part of a lent text (document 01, "Table text"), and why there is none. An archive lookup
-// reads as the archive reading does (document 02, S-9).
+// Looks up a signal's name by its number (document 01, "Table text"): one call returns it as the part of the lent text where it was first declared,
+// empty if the lookup is refused; another says why. An archive lookup reads as the archive reading does (document 02, S-9).
 ghost use mathlib.Core.Path.{_≡_};
 ghost use denote.Ref.{ptr};
 ghost use Rattle.text.specs.declared.Spelling.the-variants.{Exact, Folded};
@@ -42,7 +42,7 @@ fn find_number_alone(m: &[u8], spelling: Spelling, signal: usize) -> u32
     reader::find_alone(m, spelling, signal).number
 }
 
-// Hands back the name that the signal has in two texts read together.
+// Returns the name of the signal in two texts read together; an empty part if the lookup is refused.
 pub fn name<'a>(m: &'a [u8], p: &'a [u8], signal: usize) -> &'a [u8]
     ensures { λ r. ⌜ now r ≡ lookup Folded (now (m .entry)) (now (p .entry)) signal .name ⌝ }
     ensures { λ r. ⌜ ptr r ≡ forward (textOf (ptr (m .entry)) (ptr (p .entry)) (lookup Folded (now (m .entry)) (now (p .entry)) signal .text)) (lookup Folded (now (m .entry)) (now (p .entry)) signal .from) ⌝ }
@@ -50,14 +50,14 @@ pub fn name<'a>(m: &'a [u8], p: &'a [u8], signal: usize) -> &'a [u8]
     find_name(m, p, Spelling::Folded, signal)
 }
 
-// Gives the number of the refusal, the reading's before 12; 0 where nothing is refused.
+// Returns why `name` is refused: the number of the reading, never 10, before 12 for an undeclared signal; 0 if it is not refused.
 pub fn number<'a>(m: &'a [u8], p: &'a [u8], signal: usize) -> u32
     ensures { λ r. ⌜ r ≡ lookupNumber Folded (now (m .entry)) (now (p .entry)) signal ⌝ }
 {
     find_number(m, p, Spelling::Folded, signal)
 }
 
-// Hands back the name that the signal has in a text read alone.
+// Returns the name of the signal in a text read alone; an empty part if the lookup is refused.
 pub fn name_alone(m: &[u8], signal: usize) -> &[u8]
     ensures { λ r. ⌜ now r ≡ lookupAlone Folded (now (m .entry)) signal .name ⌝ }
     ensures { λ r. ⌜ ptr r ≡ forward (ptr (m .entry)) (lookupAlone Folded (now (m .entry)) signal .from) ⌝ }
@@ -65,14 +65,14 @@ pub fn name_alone(m: &[u8], signal: usize) -> &[u8]
     find_name_alone(m, Spelling::Folded, signal)
 }
 
-// Gives the number of the refusal of a lookup in a text read alone.
+// Returns why `name_alone` is refused: the number of the reading, never 10, before 12 for an undeclared signal; 0 if it is not refused.
 pub fn number_alone(m: &[u8], signal: usize) -> u32
     ensures { λ r. ⌜ r ≡ lookupNumberAlone Folded (now (m .entry)) signal ⌝ }
 {
     find_number_alone(m, Spelling::Folded, signal)
 }
 
-// Hands back the name that the signal has in two stored texts, by the archive reading.
+// Returns the name of the signal in two stored texts, by the archive reading; an empty part if the lookup is refused.
 pub fn archive_name<'a>(m: &'a [u8], p: &'a [u8], signal: usize) -> &'a [u8]
     ensures { λ r. ⌜ now r ≡ lookup Exact (now (m .entry)) (now (p .entry)) signal .name ⌝ }
     ensures { λ r. ⌜ ptr r ≡ forward (textOf (ptr (m .entry)) (ptr (p .entry)) (lookup Exact (now (m .entry)) (now (p .entry)) signal .text)) (lookup Exact (now (m .entry)) (now (p .entry)) signal .from) ⌝ }
@@ -80,14 +80,14 @@ pub fn archive_name<'a>(m: &'a [u8], p: &'a [u8], signal: usize) -> &'a [u8]
     find_name(m, p, Spelling::Exact, signal)
 }
 
-// Gives the number of the refusal of an archive lookup in two texts.
+// Returns why `archive_name` is refused: the number of the reading, never 10, before 12 for an undeclared signal; 0 if it is not refused.
 pub fn archive_number<'a>(m: &'a [u8], p: &'a [u8], signal: usize) -> u32
     ensures { λ r. ⌜ r ≡ lookupNumber Exact (now (m .entry)) (now (p .entry)) signal ⌝ }
 {
     find_number(m, p, Spelling::Exact, signal)
 }
 
-// Hands back the name that the signal has in a stored text read alone, by the archive reading.
+// Returns the name of the signal in a stored text read alone, by the archive reading; an empty part if the lookup is refused.
 pub fn archive_name_alone(m: &[u8], signal: usize) -> &[u8]
     ensures { λ r. ⌜ now r ≡ lookupAlone Exact (now (m .entry)) signal .name ⌝ }
     ensures { λ r. ⌜ ptr r ≡ forward (ptr (m .entry)) (lookupAlone Exact (now (m .entry)) signal .from) ⌝ }
@@ -95,7 +95,7 @@ pub fn archive_name_alone(m: &[u8], signal: usize) -> &[u8]
     find_name_alone(m, Spelling::Exact, signal)
 }
 
-// Gives the number of the refusal of an archive lookup in a text read alone.
+// Returns why `archive_name_alone` is refused: the number of the reading, never 10, before 12 for an undeclared signal; 0 if it is not refused.
 pub fn archive_number_alone(m: &[u8], signal: usize) -> u32
     ensures { λ r. ⌜ r ≡ lookupNumberAlone Exact (now (m .entry)) signal ⌝ }
 {

@@ -1,5 +1,5 @@
-// Checks of the writer on the names it is lent: 16 and 18 (document 01), 28 (document 02, S-9). `names` has one for each action number; a missing
-// entry is an empty name.
+// Checks of the writer on the names that it is lent: 16 and 18 (document 01), 28 (document 02, S-9). `names` has one for each action number; a
+// missing entry is an empty name.
 ghost use mathlib.Core.Path.{_≡_};
 ghost use mathlib.Core.Bool.{not};
 ghost use Prim.Native.Nat.{ℕ};
@@ -61,8 +61,8 @@ fn is_repeated(spelling: Spelling, signals: u32, names: &[&[u8]]) -> bool
     false
 }
 
-// Checks the table's name, the declared signals' names, then whether two of these are equal, then whether two clash. Equal names match in every spelling, so that names
-// which pass are held against each other once.
+// Checks the name of the table and those of the declared signals (16), whether two signals have equal names (18), then whether two names clash
+// (28). Equal names match in every spelling, so that names which pass are compared with each other once.
 pub fn check(a: Automaton, name: &[u8], names: &[&[u8]]) -> Checked
     ensures { λ r. ⌜ r ≡ first (nameChecks a (now (name .entry)) (texts (now (names .entry)))) ⌝ }
 {

@@ -1,4 +1,4 @@
-// The clashes among the names of two stored texts (document 02, S-9).
+// Lists the clashes among the names of two stored texts (document 02, S-9).
 ghost use mathlib.Core.Path.{_≡_};
 ghost use mathlib.Core.Bool.{true};
 ghost use mathlib.Core.List.{[]};
@@ -129,7 +129,8 @@ fn refuse(refusal: TextRefusal) -> Listing
     }
 }
 
-// Lists the clashes of a stored module's and a stored plan's text, as the archive reading reads them into lent cells.
+// Lists the clashes in the stored texts of a component and a specification (document 01: module, plan). Reads them into the lent cells as
+// `read_archive_together` does.
 pub fn list_clashes<'a>(m: &'a [u8], p: &'a [u8], cm: &mut [u16], cp: &mut [u16]) -> Listing
     ensures { λ r. ⌜ r ≡ listing (now (m .entry)) (now (p .entry)) (readBoth Exact (length (now (cm .entry))) (now (m .entry)) (length (now (cp .entry))) (now (p .entry))) ⌝ }
     ensures { λ r. ⌜ now (cm .exit) ≡ cellsFirst (length (now (cm .entry))) (readBoth Exact (length (now (cm .entry))) (now (m .entry)) (length (now (cp .entry))) (now (p .entry))) ⌝ }

@@ -1,4 +1,4 @@
-// What a line does to a reading: the `table` line, a declaration, a step.
+// Enters a line into a reading: the `table` line, a declaration or a step.
 ghost use mathlib.Core.Path.{_≡_};
 ghost use mathlib.Core.Bool.{cond};
 ghost use Prim.Native.Nat.{_<_};
@@ -15,7 +15,7 @@ use text::Role;
 use text::Spelling;
 use theory::Automaton;
 
-// The state after a line; where the line ends the reading, the number of its refusal.
+// Result of a line: the state after it; or, if `refused`, the number of the refusal that ends the reading.
 pub struct Advanced {
     pub refused: bool,
     pub number: u32,
@@ -196,7 +196,8 @@ fn named(text: u8, from: usize, length: usize) -> Name
     }
 }
 
-// The record of the line from byte `at` to byte `end` of a text.
+// Enters the record of the line from byte `at` to byte `end` of the text with number `text`: returns the state after it, and writes the cell of a
+// step.
 pub fn enter<'a>(
     m: &'a [u8],
     p: &'a [u8],

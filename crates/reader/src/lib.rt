@@ -1,5 +1,5 @@
-// Reads table text (document 01, "Table text"), line by line to its end: a module's and a plan's text together, or a text alone; into lent cells, for the
-// place of a signal's name, or for the clashes among the names of two stored texts (document 02, S-9).
+// Reads table text (document 01, "Table text"), line by line to its end: the texts of a component and a specification (module, plan) together, or a
+// text alone; into lent cells, to find where a name stands, or to list the clashes among the names of two stored texts (document 02, S-9).
 ghost use mathlib.Core.Path.{_≡_};
 ghost use lib.ListN.{length};
 ghost use Rattle.text.specs.declared.Spelling.the-variants.{Exact, Folded};
@@ -21,13 +21,13 @@ pub use clashes::list_clashes;
 pub use places::find;
 pub use places::find_alone;
 
-// The numbers of the automaton of a text read alone; its cells are in the lent buffer.
+// Reply to a text read alone: the header of its automaton, whose cells are in the lent buffer; or a refusal.
 pub enum Alone {
     Table(Automaton),
     Refused(TextRefusal),
 }
 
-// Those of two texts read together.
+// Reply to two texts read together: the headers of the two automata, whose cells are in the lent buffers; or a refusal.
 pub enum Together {
     Tables {
         component: Automaton,
@@ -36,8 +36,8 @@ pub enum Together {
     Refused(TextRefusal),
 }
 
-// Where the name of a signal was first declared: in which text (1, 2), from which byte on, how many bytes. All 0 where the lookup is refused,
-// and then `number` says why; else that is 0.
+// Where a signal's name was first declared: the text (1 the first, 2 the second), the byte at which the name begins, and its length. If the lookup
+// is refused, `number` says why and all else is 0; if not, `number` is 0.
 pub struct Found {
     pub number: u32,
     pub text: u32,
@@ -45,13 +45,13 @@ pub struct Found {
     pub length: usize,
 }
 
-// Names that clash with one declared before them, in reading order: the first `count` rows; the others are not used.
+// Names that clash with one declared before them, in reading order: the first `count` rows; the other rows are not used.
 pub struct ClashList {
     pub rows: [Clash; 32],
     pub count: usize,
 }
 
-// What came of listing the clashes of two texts; where the reading refuses them there are none.
+// Reply of `list_clashes`: the clashes; or, if `refused`, why the reading refuses the texts, and no clash.
 pub struct Listing {
     pub refused: bool,
     pub refusal: TextRefusal,
@@ -74,7 +74,7 @@ fn read_one(m: &[u8], spelling: Spelling, cells: &mut [u16]) -> Alone
     Alone::Table(header)
 }
 
-// Reads a text alone. A refused reading leaves the lent cells without steps.
+// Reads a text alone into lent cells. Cells beyond the table, and all cells after a refusal, are 65,535.
 pub fn read_alone(m: &[u8], cells: &mut [u16]) -> Alone
     ensures { λ r. ⌜ r ≡ aloneReply (readAlone Folded (length (now (cells .entry))) (now (m .entry))) ⌝ }
     ensures { λ r. ⌜ now (cells .exit) ≡ cellsAlone (length (now (cells .entry))) (readAlone Folded (length (now (cells .entry))) (now (m .entry))) ⌝ }
@@ -82,7 +82,8 @@ pub fn read_alone(m: &[u8], cells: &mut [u16]) -> Alone
     read_one(m, Spelling::Folded, cells)
 }
 
-// Reads a stored text alone, by document 01's rule: names may differ in the case of letters alone.
+// Reads a stored text alone into lent cells, by document 01's rule: names that differ only in the case of letters are names of two signals. Cells
+// beyond the table, and all cells after a refusal, are 65,535.
 pub fn read_archive_alone(m: &[u8], cells: &mut [u16]) -> Alone
     ensures { λ r. ⌜ r ≡ aloneReply (readAlone Exact (length (now (cells .entry))) (now (m .entry))) ⌝ }
     ensures { λ r. ⌜ now (cells .exit) ≡ cellsAlone (length (now (cells .entry))) (readAlone Exact (length (now (cells .entry))) (now (m .entry))) ⌝ }
@@ -119,7 +120,8 @@ fn read_both<'a>(
     }
 }
 
-// Reads a module's text to its end, then a plan's.
+// Reads the text of a component (document 01: module) to its end, then that of a specification (plan), into lent cells; signals are numbered as
+// first declared in the two. Cells beyond a table, and all cells after a refusal, are 65,535.
 pub fn read_together<'a>(m: &'a [u8], p: &'a [u8], cm: &mut [u16], cp: &mut [u16]) -> Together
     ensures { λ r. ⌜ r ≡ togetherReply (readBoth Folded (length (now (cm .entry))) (now (m .entry)) (length (now (cp .entry))) (now (p .entry))) ⌝ }
     ensures { λ r. ⌜ now (cm .exit) ≡ cellsFirst (length (now (cm .entry))) (readBoth Folded (length (now (cm .entry))) (now (m .entry)) (length (now (cp .entry))) (now (p .entry))) ⌝ }
@@ -128,7 +130,8 @@ pub fn read_together<'a>(m: &'a [u8], p: &'a [u8], cm: &mut [u16], cp: &mut [u16
     read_both(m, p, Spelling::Folded, cm, cp)
 }
 
-// Reads a stored module's text to its end, then a plan's, by document 01's rule.
+// Reads the stored text of a component to its end, then that of a specification, into lent cells, by document 01's rule: names that differ only in
+// the case of letters are names of two signals. Cells beyond a table, and all cells after a refusal, are 65,535.
 pub fn read_archive_together<'a>(
     m: &'a [u8],
     p: &'a [u8],

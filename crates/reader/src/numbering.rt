@@ -9,7 +9,7 @@ use crate::state::Signals;
 use signals::Name;
 use text::Spelling;
 
-// No signal.
+// Returns the numbering in which no signal has a number yet.
 pub fn none() -> Signals
     ensures { λ r. ⌜ Nobody r ⌝ }
 {
@@ -23,7 +23,8 @@ pub fn none() -> Signals
     }
 }
 
-// Whether a name is these bytes in a spelling. Its length and its last byte, but for the bit of its case, tell most names apart, before the part is cut out.
+// Tells whether a name equals `wanted` in this spelling. Its length and its last byte, but for the bit of its case, tell most names apart before
+// the part is cut out.
 pub fn is_named<'a>(m: &'a [u8], p: &'a [u8], spelling: Spelling, name: Name, wanted: &[u8]) -> bool
     ensures { λ r. ⌜ r ≡ matches spelling (nameAt (now (m .entry)) (now (p .entry)) name) (now (wanted .entry)) ⌝ }
 {
@@ -44,7 +45,7 @@ pub fn is_named<'a>(m: &'a [u8], p: &'a [u8], spelling: Spelling, name: Name, wa
     scan::matches(spelling, signals::bytes_of(m, p, name), wanted)
 }
 
-// Finds the first signal whose name matches in a spelling: its number, or the next number where there is none.
+// Finds the first signal whose name equals this one in the spelling: returns its number, or the next free number if there is none.
 pub fn alike_of<'a>(
     m: &'a [u8],
     p: &'a [u8],
@@ -69,8 +70,9 @@ pub fn alike_of<'a>(
     i
 }
 
-// Finds the number of a name, which no signal below `from` has: that of the signal that has it, or the next number. It is kept apart from `alike_of` for speed:
-// nearly all lines of a text are steps, and without a spelling as an argument this search is short enough for the compiler to inline it where a step is read.
+// Finds the signal with this name, which no signal below `from` has: returns its number, or the next free number if there is none. It is kept apart
+// from `alike_of` for speed: nearly all lines of a text are steps, and without a spelling as an argument this search is short enough for the
+// compiler to inline it where a step is read.
 pub fn number_of<'a>(m: &'a [u8], p: &'a [u8], signals: Signals, name: Name, from: usize) -> usize
     requires { ⌜ Fit signals ⌝ }
     requires { ⌜ from ≤ indexOf (nameAt (now m) (now p) name) (signalsOf (now m) (now p) signals) ⌝ }
@@ -90,7 +92,7 @@ pub fn number_of<'a>(m: &'a [u8], p: &'a [u8], signals: Signals, name: Name, fro
     i
 }
 
-// The signals with a name of this number, which is that of a signal or the next.
+// Gives the number to the name if it is the next free one; changes nothing if a signal has it already.
 pub fn add(signals: Signals, name: Name, number: usize) -> Signals
     requires { ⌜ Addable signals number ⌝ }
     ensures { λ r. ⌜ Added signals name number r ⌝ }

@@ -1,4 +1,4 @@
-// Where a signal's name was first declared.
+// Finds where a signal's name was first declared.
 ghost use mathlib.Core.Path.{_≡_};
 ghost use mathlib.Core.Bool.{_||_};
 ghost use lib.ListN.{length, getD};
@@ -91,8 +91,8 @@ fn find_alone_in(m: &[u8], spelling: Spelling, signal: usize, cells: &mut [u16])
     place_of(m, m, signals, signal)
 }
 
-// Finds where a signal's name was first declared in two texts that are read together in a spelling. It reads into cells of its own, enough for any table, so it
-// is lent none and 10 never applies.
+// Finds where a signal's name was first declared in two texts that are read together in a spelling. It reads into cells of its own, enough for any
+// table, so that 10 never applies.
 pub fn find<'a>(m: &'a [u8], p: &'a [u8], spelling: Spelling, signal: usize) -> Found
     ensures { λ r. ⌜ r ≡ found spelling (now (m .entry)) (now (p .entry)) signal ⌝ }
 {
@@ -101,7 +101,8 @@ pub fn find<'a>(m: &'a [u8], p: &'a [u8], spelling: Spelling, signal: usize) -> 
     find_in(m, p, spelling, signal, &mut cm, &mut cp)
 }
 
-// Finds where a signal's name was first declared in a text that is read alone in a spelling, with cells of its own too.
+// Finds where a signal's name was first declared in a text that is read alone in a spelling. It reads into cells of its own, enough for any table,
+// so that 10 never applies.
 pub fn find_alone(m: &[u8], spelling: Spelling, signal: usize) -> Found
     ensures { λ r. ⌜ r ≡ foundAlone spelling (now (m .entry)) signal ⌝ }
 {

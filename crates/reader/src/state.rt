@@ -1,30 +1,30 @@
-// A reading as it goes on: what has been read but for the lent cells, and what came of a text.
+// State of a reading between two lines, but for the lent cells; and the results of reading one text and two.
 use signals::Name;
 use text::Place;
 use text::TextRefusal;
 use theory::Automaton;
 
-// The names of the first `count` signals.
+// Names of the signals that have a number, by their number: the first `count` entries; the others are not used.
 pub struct Signals {
     pub names: [Name; 32],
     pub count: usize,
 }
 
-// What has been read, but for the lent cells: the place of the next line, the automaton's numbers and the signals so far.
+// What has been read, but for the lent cells: the place of the next line, the header of the automaton, and the signals so far.
 pub struct State {
     pub place: Place,
     pub header: Automaton,
     pub signals: Signals,
 }
 
-// What came of a text: the state at its end, or why the reading ended.
+// Result of reading a text: the state at its end; or, if `refused`, why it is refused.
 pub struct Told {
     pub refused: bool,
     pub refusal: TextRefusal,
     pub state: State,
 }
 
-// What came of two texts.
+// Result of reading two texts: the state at the end of each; or, if `refused`, why they are refused.
 pub struct Both {
     pub refused: bool,
     pub refusal: TextRefusal,

@@ -1,4 +1,4 @@
-// The reading of a text, and of two.
+// Reads a text alone, or two texts together, to the end.
 ghost use mathlib.Core.Path.{_≡_};
 ghost use mathlib.Core.Bool.{true};
 ghost use Prim.Native.Nat.{_≤_};
@@ -125,7 +125,7 @@ fn read<'a>(
     read_lines(m, p, text, spelling, signals, cells)
 }
 
-// A text alone: it is the first, and numbers its signals from 0.
+// Reads a text alone: it counts as the first, and its signals are numbered from 0.
 pub fn read_one(m: &[u8], spelling: Spelling, cells: &mut [u16]) -> Told
     ensures { λ r. ⌜ ReadsOne (now (m .entry)) spelling (length (now (cells .entry))) r (now (cells .exit)) ⌝ }
 {
@@ -147,7 +147,7 @@ fn join(first: Told, second: Told) -> Both
     }
 }
 
-// A module's text to its end, then a plan's, whose signals continue the numbering.
+// Reads the text of a component to its end, then that of a specification, whose new signals continue the numbering.
 pub fn read_both<'a>(
     m: &'a [u8],
     p: &'a [u8],

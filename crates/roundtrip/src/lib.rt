@@ -1,1 +1,1 @@
-// A table written as text and read again (the letter's demand 2): laws of the definitions of table text. There is no code here.
+// Laws of the round trip: a table written as text and read again is the same (demand 2 of the letter). There is no code here.

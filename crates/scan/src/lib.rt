@@ -1,5 +1,5 @@
-// Scanners that table text is taken apart with (document 01, "Table text"). Each looks at a whole part of a text. A part that is handed
-// back is given by its bytes and by its place, an empty one too.
+// Finds bytes in table text, compares parts of it and cuts them out (document 01, "Table text"). The contract of a part that is handed back gives
+// its bytes and its place in memory, of an empty part too.
 ghost use mathlib.Core.Path.{_≡_};
 ghost use Prim.Native.Nat.{_-_};
 ghost use lib.Dec.{eqb};
@@ -10,7 +10,7 @@ ghost use Rattle.scan.specs.Places.{placeIn};
 ghost use Rattle.scan.specs.CaseBit.{caseBit};
 use text::Spelling;
 
-// How many bytes stand before the first b; all where there is none.
+// Counts the bytes before the first b; all bytes if there is none.
 pub fn find(s: &[u8], b: u8) -> usize
     ensures { λ r. ⌜ r ≡ upto b (now (s .entry)) ⌝ }
 {
@@ -22,7 +22,8 @@ pub fn find(s: &[u8], b: u8) -> usize
     s.len()
 }
 
-// Gives the bit in which the two cases of a letter differ, where letters are folded; else none. Bytes that differ once it is set in both do not match.
+// Returns the bit in which capital and small letters differ if the spelling folds them, else 0. Two bytes that differ even with this bit set in
+// both do not match.
 pub fn case_bit(spelling: Spelling) -> u8
     ensures { λ r. ⌜ r ≡ caseBit spelling ⌝ }
 {
@@ -53,7 +54,7 @@ fn agree(spelling: Spelling, x: u8, y: u8) -> bool
     spell(spelling, x) == spell(spelling, y)
 }
 
-// Whether a and b are the same bytes in a spelling. They are compared from the last on: names in one text are often alike but for their ends.
+// Tells whether a and b are equal in this spelling. Compares from the last byte on: names in one text are often alike but for their ends.
 pub fn matches(spelling: Spelling, a: &[u8], b: &[u8]) -> bool
     ensures { λ r. ⌜ r ≡ matches spelling (now (a .entry)) (now (b .entry)) ⌝ }
 {
@@ -71,14 +72,14 @@ pub fn matches(spelling: Spelling, a: &[u8], b: &[u8]) -> bool
     true
 }
 
-// Whether a and b are the same bytes.
+// Tells whether a and b are the same bytes.
 pub fn equal(a: &[u8], b: &[u8]) -> bool
     ensures { λ r. ⌜ r ≡ same (now (a .entry)) (now (b .entry)) ⌝ }
 {
     matches(Spelling::Exact, a, b)
 }
 
-// What stands before the byte `at`; all where there is none.
+// Returns the part before the byte `at`; all of s if s is shorter.
 pub fn before<'a>(s: &'a [u8], at: usize) -> &'a [u8]
     ensures { λ r. ⌜ now r ≡ take at (now (s .entry)) ⌝ }
     ensures { λ r. ⌜ ptr r ≡ ptr (s .entry) ⌝ }
@@ -89,7 +90,7 @@ pub fn before<'a>(s: &'a [u8], at: usize) -> &'a [u8]
     s
 }
 
-// What stands from the byte `at` on; the empty part at the end of s where there is none.
+// Returns the part from the byte `at` on; the empty part at the end of s if s is shorter.
 pub fn after<'a>(s: &'a [u8], at: usize) -> &'a [u8]
     ensures { λ r. ⌜ now r ≡ drop at (now (s .entry)) ⌝ }
     ensures { λ r. ⌜ ptr r ≡ placeIn (ptr (s .entry)) (now (s .entry)) at ⌝ }
@@ -101,7 +102,8 @@ pub fn after<'a>(s: &'a [u8], at: usize) -> &'a [u8]
     &s[at..]
 }
 
-// What stands from the byte `from` on and before the byte `to`; where there is none, the empty part at `from`, or at the end of s.
+// Returns the part from the byte `from` on and before the byte `to`. If it has no byte, it is the empty part at `from`, or at the end of s if s is
+// shorter.
 pub fn part<'a>(s: &'a [u8], from: usize, to: usize) -> &'a [u8]
     ensures { λ r. ⌜ now r ≡ take (to - from) (drop from (now (s .entry))) ⌝ }
     ensures { λ r. ⌜ ptr r ≡ placeIn (ptr (s .entry)) (now (s .entry)) from ⌝ }

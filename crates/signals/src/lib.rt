@@ -6,22 +6,22 @@ ghost use Rattle.text.specs.Reading.{textOf};
 ghost use Rattle.signals.specs.Names.{isDeclared, nameAt};
 use theory::Automaton;
 
-// A name as a part of one of two texts: 2 is the second, any other number the first. It is held in 4 bytes, since a reading hands all its names
-// on with every line: of a text that is read a byte's place fits into 16 bits, and a name into 16 bytes.
+// A name by its place in one of two texts: `text` is 2 for the second, any other number for the first. It takes only 4 bytes, since a reading hands
+// all its names on with every line: a text that is read has at most 65,536 bytes, and a name 16.
 pub struct Name {
     pub text: u8,
     pub length: u8,
     pub from: u16,
 }
 
-// Whether the automaton has the signal.
+// Tells whether the signal is an input or an output of the automaton.
 pub fn is_declared(header: Automaton, signal: usize) -> bool
     ensures { λ r. ⌜ r ≡ isDeclared header signal ⌝ }
 {
     sets::contains(automaton::declared(header), signal)
 }
 
-// Hands back the text of a number.
+// Returns the text with this number: 2 is the second text, any other number the first.
 pub fn text_of<'a>(m: &'a [u8], p: &'a [u8], text: u32) -> &'a [u8]
     ensures { λ r. ⌜ now r ≡ textOf (now (m .entry)) (now (p .entry)) text ⌝ }
     ensures { λ r. ⌜ ptr r ≡ textOf (ptr (m .entry)) (ptr (p .entry)) text ⌝ }
@@ -29,7 +29,7 @@ pub fn text_of<'a>(m: &'a [u8], p: &'a [u8], text: u32) -> &'a [u8]
     if text == 2 { p } else { m }
 }
 
-// Hands back a name's bytes where they stand in its text, as far as the text has them.
+// Returns a name as the part of its text where it stands, as far as the text reaches.
 pub fn bytes_of<'a>(m: &'a [u8], p: &'a [u8], name: Name) -> &'a [u8]
     ensures { λ r. ⌜ now r ≡ nameAt (now (m .entry)) (now (p .entry)) name ⌝ }
     ensures { λ r. ⌜ ptr r ≡ placeIn (textOf (ptr (m .entry)) (ptr (p .entry)) (name .text)) (textOf (now (m .entry)) (now (p .entry)) (name .text)) (name .from) ⌝ }

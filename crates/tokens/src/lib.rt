@@ -4,8 +4,8 @@ ghost use Prim.Native.Nat.{_<_};
 ghost use Rattle.text.specs.Fields.{nameByte, nameOk, number as numberOf};
 use text::Number;
 
-// A letter, a digit or an underscore of ASCII. Small letters, the most frequent, are told by themselves: the compiler tests all kinds of a `match`
-// together.
+// Tells whether a byte may stand in a name: an ASCII letter, a digit or an underscore. Small letters, the most frequent, have a test of their own:
+// the compiler tests all cases of a `match` together.
 pub fn is_name_byte(x: u8) -> bool
     ensures { λ r. ⌜ r ≡ nameByte x ⌝ }
 {
@@ -28,7 +28,7 @@ fn is_other_name_byte(x: u8) -> bool
     }
 }
 
-// The name rule.
+// Tells whether s keeps the name rule: 1 to 16 bytes, each of which may stand in a name.
 pub fn is_name(s: &[u8]) -> bool
     ensures { λ r. ⌜ r ≡ nameOk (now (s .entry)) ⌝ }
 {
@@ -46,7 +46,7 @@ pub fn is_name(s: &[u8]) -> bool
     true
 }
 
-// The number rule, with the number's value.
+// Reads a decimal number: returns its value, or `Bad` if s breaks the number rule.
 pub fn number(s: &[u8]) -> Number
     ensures { λ r. ⌜ r ≡ numberOf (now (s .entry)) ⌝ }
 {

@@ -1,5 +1,5 @@
-// How long a table's text is, found before anything is written: check 23 leaves the lent buffer as it was. What is said of the size of a result
-// is far from sharp; it is there because sums must not overflow.
+// Measures the text of a table before anything is written, since check 23 leaves the lent buffer as it was. The bounds on results in the contracts
+// are far from sharp; they are there because sums must not overflow.
 ghost use mathlib.Core.Path.{_≡_};
 ghost use Prim.Native.Nat.{_*_, _^_, _≤_, _<_};
 ghost use lib.Bits.{bitOr};
@@ -84,7 +84,7 @@ fn step_lines(a: Automaton, cells: &[u16], names: &[&[u8]]) -> usize
     total
 }
 
-// The whole text.
+// Returns the length of the whole text.
 pub fn text(a: Automaton, cells: &[u16], name: &[u8], names: &[&[u8]]) -> usize
     requires { ⌜ Valid (table a (now cells)) ⌝ }
     requires { ⌜ Named (bitOr (a .inputs) (a .outputs)) (texts (now names)) ⌝ }

@@ -16,7 +16,7 @@ use theory::Refusal;
 mod lengths;
 mod rows;
 
-// The length of the text, which stands in the lent buffer.
+// Reply of `write`: the length of the text, which stands in the lent buffer; or a refusal.
 pub enum Printed {
     Length(usize),
     Refused(Refusal),
@@ -52,7 +52,8 @@ fn print(out: &mut [u8], a: Automaton, cells: &[u16], name: &[u8], names: &[&[u8
     Printed::Length(n)
 }
 
-// Writes the text of a table with its name and a name for each declared signal; bytes past the text stay.
+// Writes the text of a table, with its name and, from `names`, a name for each declared signal by its number. Declares signals by number, and puts
+// steps by state, then by signal number; bytes past the text stay. Runs checks 1 to 6, 16, 18, 28, 23; a refusal leaves the buffer as it was.
 pub fn write(a: Automaton, cells: &[u16], name: &[u8], names: &[&[u8]], out: &mut [u8]) -> Printed
     ensures { λ r. ⌜ r ≡ writerReply (table a (now (cells .entry))) (now (name .entry)) (texts (now (names .entry))) (length (now (out .entry))) ⌝ }
     ensures { λ r. ⌜ now (out .exit) ≡ writerBytes (table a (now (cells .entry))) (now (name .entry)) (texts (now (names .entry))) (now (out .entry)) ⌝ }

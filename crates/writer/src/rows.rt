@@ -1,4 +1,4 @@
-// The lines of a table's text: its name and numbers, its signals, its steps.
+// Writes the lines of a table's text: the `table` line, its declarations, its steps.
 ghost use mathlib.Core.Path.{_≡_};
 ghost use Prim.Native.Nat.{_<_};
 ghost use lib.Bits.{bitOr};
@@ -90,7 +90,7 @@ fn step_lines(d: &mut [u8], at: usize, a: Automaton, cells: &[u16], names: &[&[u
     end
 }
 
-// The whole text, from the buffer's first byte on.
+// Writes the whole text from the first byte of the buffer on; returns the place after it.
 pub fn text(d: &mut [u8], a: Automaton, cells: &[u16], name: &[u8], names: &[&[u8]]) -> usize
     requires { ⌜ Valid (table a (now cells)) ⌝ }
     requires { ⌜ Named (bitOr (a .inputs) (a .outputs)) (texts (now names)) ⌝ }
