@@ -11,7 +11,8 @@ fn join(low: u8, high: u8) -> u16
     (low as u16) + 256 * (high as u16)
 }
 
-// How many cells a table of so many states has in so many bytes: all that it needs, or none.
+// Returns how many cells a table of so many states has in so many bytes: 32 for each state; or 0, so that it is refused, if there are more than
+// 4,096 states or not exactly 64 bytes for each.
 pub fn count(states: usize, bytes: usize) -> usize
     ensures { λ r. ⌜ r ≡ cellCount states bytes ⌝ }
 {
@@ -24,7 +25,7 @@ pub fn count(states: usize, bytes: usize) -> usize
     states * 32
 }
 
-// The cell at k; no step beyond the last.
+// Returns the cell at index k; 65,535, no step, beyond the last.
 pub fn at(bytes: &[u8], k: usize) -> u16
     ensures { λ r. ⌜ r ≡ getD (unpacked (now (bytes .entry))) k 65535 ⌝ }
 {
@@ -34,7 +35,7 @@ pub fn at(bytes: &[u8], k: usize) -> u16
     join(bytes[2 * k], bytes[2 * k + 1])
 }
 
-// Writes the cells of the bytes; no step beyond the last.
+// Writes the cells that the bytes hold; 65,535, no step, beyond the last.
 pub fn unpack(bytes: &[u8], cells: &mut [u16])
     ensures { λ _. ⌜ now (cells .exit) ≡ tabulate (λ k. getD (unpacked (now (bytes .entry))) k 65535) 0 (length (now (cells .entry))) ⌝ }
 {

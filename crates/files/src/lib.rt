@@ -4,7 +4,7 @@ ghost use Prim.Native.Nat.{_≤_, min};
 ghost use lib.ListN.{length};
 ghost use Rattle.files.specs.Reading.{taken, Reads};
 
-// What comes of it: how many bytes were read, or that the file cannot be read.
+// Result of reading a file: how many bytes were read, or that the file cannot be read.
 pub enum File {
     Bytes(usize),
     Unreadable,
@@ -13,8 +13,8 @@ pub enum File {
 // How often a read that signals interrupt is made.
 const ATTEMPTS: usize = 1000;
 
-// Reads the file from its start until the buffer is full, the input ends, or 65,537 bytes are read: one more than the longest text has, so
-// that a longer one is noticed. A missing file, a folder, or a read that fails is unreadable, and leaves the buffer as it was.
+// Reads the file from its start until the buffer is full, the file ends, or 65,537 bytes are read: one more than the longest text has, so that a
+// longer one is noticed. A file that is missing, is a folder, or fails to be read is unreadable, and leaves the buffer as it was.
 pub fn read(path: &[u8], buf: &mut [u8]) -> File
     ensures { λ r. ⌜ Reads r (now (buf .entry)) (now (buf .exit)) ⌝ }
 {

@@ -12,7 +12,7 @@ ghost use Rattle.harness.specs.Tables.{tableOf};
 use replies::Reply;
 use theory::Automaton;
 
-// Whether the table is sound.
+// Judges a table.
 #[no_mangle]
 pub extern "C" fn harness_judge(
     states: usize,
@@ -32,7 +32,7 @@ pub extern "C" fn harness_judge(
     replies::judged(automaton::judge(a, cells))
 }
 
-// The mirror's numbers; its cells are the table's own.
+// Mirrors a table: gives the header of the mirror, whose cells are those of the table.
 #[no_mangle]
 pub extern "C" fn harness_mirror(
     states: usize,
@@ -52,7 +52,7 @@ pub extern "C" fn harness_mirror(
     replies::mirrored(automaton::mirror(a, cells))
 }
 
-// The follower at a state, for a signal.
+// Makes one step of the follower from a state by a signal.
 #[no_mangle]
 pub extern "C" fn harness_follow(
     states: usize,
@@ -74,7 +74,7 @@ pub extern "C" fn harness_follow(
     replies::followed(state, follower::follow(a, cells, state, signal))
 }
 
-// How many bytes are 1.
+// Counts the bytes that are 1.
 #[no_mangle]
 pub extern "C" fn harness_count_kept(flags: &[u8]) -> usize
     ensures { λ r. ⌜ r ≡ keptCount (now (flags .entry)) ⌝ }
@@ -82,7 +82,7 @@ pub extern "C" fn harness_count_kept(flags: &[u8]) -> usize
     counts::count_kept(flags)
 }
 
-// How many bytes are 1, counted one by one, for the benchmark to compare with.
+// Counts the bytes that are 1, one by one, for the benchmark to compare with.
 #[no_mangle]
 pub extern "C" fn harness_count_singly(flags: &[u8]) -> usize
     ensures { λ r. ⌜ r ≡ keptCount (now (flags .entry)) ⌝ }
@@ -90,7 +90,7 @@ pub extern "C" fn harness_count_singly(flags: &[u8]) -> usize
     counts::count_singly(flags)
 }
 
-// How many cells hold a step.
+// Counts the cells that hold a step.
 #[no_mangle]
 pub extern "C" fn harness_count_steps(states: usize, cells: &[u16]) -> usize
     ensures { λ r. ⌜ r ≡ stepsIn states (now (cells .entry)) ⌝ }
@@ -98,7 +98,7 @@ pub extern "C" fn harness_count_steps(states: usize, cells: &[u16]) -> usize
     counts::count_steps(states, cells)
 }
 
-// How many states are ends.
+// Counts the ends of a composition, by its table and flags.
 #[no_mangle]
 pub extern "C" fn harness_count_ends(
     states: usize,
@@ -119,7 +119,7 @@ pub extern "C" fn harness_count_ends(
     reach::count_ends(a, cells, flags)
 }
 
-// Which states are reached from the first one by the actions of each state's set.
+// Marks the states that are reached from the first one by the actions of each state's set.
 #[no_mangle]
 pub extern "C" fn harness_mark_reached(
     marks: &mut [u8],

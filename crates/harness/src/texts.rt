@@ -17,7 +17,7 @@ ghost use Rattle.harness.specs.Tables.{tableOf};
 use replies::Reply;
 use theory::Automaton;
 
-// A text read alone; the table's cells are in the lent buffer.
+// Reads a text alone; the cells of its table are in the lent buffer.
 #[no_mangle]
 pub extern "C" fn harness_read_alone(m: &[u8], cells: &mut [u16]) -> Reply
     ensures { λ r. ⌜ r ≡ aloneRead (aloneReply (readAlone Folded (length (now (cells .entry))) (now (m .entry)))) ⌝ }
@@ -26,7 +26,7 @@ pub extern "C" fn harness_read_alone(m: &[u8], cells: &mut [u16]) -> Reply
     replies::read_alone(reader::read_alone(m, cells))
 }
 
-// A module's and a plan's text read together; the tables' cells are in the lent buffers.
+// Reads the texts of a module and a plan together; the cells of the tables are in the lent buffers.
 #[no_mangle]
 pub extern "C" fn harness_read_together<'a>(
     m: &'a [u8],
@@ -41,7 +41,7 @@ pub extern "C" fn harness_read_together<'a>(
     replies::read_together(reader::read_together(m, p, cm, cp))
 }
 
-// A stored text read alone, by document 01's rule.
+// Reads a stored text alone, by document 01's rule; the cells of its table are in the lent buffer.
 #[no_mangle]
 pub extern "C" fn harness_read_archive_alone(m: &[u8], cells: &mut [u16]) -> Reply
     ensures { λ r. ⌜ r ≡ aloneRead (aloneReply (readAlone Exact (length (now (cells .entry))) (now (m .entry)))) ⌝ }
@@ -50,7 +50,7 @@ pub extern "C" fn harness_read_archive_alone(m: &[u8], cells: &mut [u16]) -> Rep
     replies::read_alone(reader::read_archive_alone(m, cells))
 }
 
-// A stored module's and a stored plan's text read together, by document 01's rule.
+// Reads the stored texts of a module and a plan together, by document 01's rule; the cells of the tables are in the lent buffers.
 #[no_mangle]
 pub extern "C" fn harness_read_archive_together<'a>(
     m: &'a [u8],
@@ -74,7 +74,7 @@ fn tell(name: &[u8], number: u32, out: &mut [u8]) -> Reply
     replies::bare(number, 0, 0, false, name.len())
 }
 
-// The name of a signal in two texts read together, put into the lent buffer as far as there is room.
+// Looks up the name of a signal in two texts read together, and puts it into the lent buffer as far as there is room.
 #[no_mangle]
 pub extern "C" fn harness_name<'a>(m: &'a [u8], p: &'a [u8], signal: usize, out: &mut [u8]) -> Reply
     ensures { λ r. ⌜ r ≡ named (lookupNumber Folded (now (m .entry)) (now (p .entry)) signal) (lookup Folded (now (m .entry)) (now (p .entry)) signal .name) ⌝ }
@@ -87,7 +87,7 @@ pub extern "C" fn harness_name<'a>(m: &'a [u8], p: &'a [u8], signal: usize, out:
     )
 }
 
-// The name of a signal in a text read alone, put into the lent buffer as far as there is room.
+// Looks up the name of a signal in a text read alone, and puts it into the lent buffer as far as there is room.
 #[no_mangle]
 pub extern "C" fn harness_name_alone(m: &[u8], signal: usize, out: &mut [u8]) -> Reply
     ensures { λ r. ⌜ r ≡ named (lookupNumberAlone Folded (now (m .entry)) signal) (lookupAlone Folded (now (m .entry)) signal .name) ⌝ }
@@ -100,7 +100,7 @@ pub extern "C" fn harness_name_alone(m: &[u8], signal: usize, out: &mut [u8]) ->
     )
 }
 
-// The name of a signal in two stored texts, by the archive reading.
+// Looks up the name of a signal in two stored texts, by the archive reading, and puts it into the lent buffer as far as there is room.
 #[no_mangle]
 pub extern "C" fn harness_archive_name<'a>(
     m: &'a [u8],
@@ -118,7 +118,7 @@ pub extern "C" fn harness_archive_name<'a>(
     )
 }
 
-// The name of a signal in a stored text read alone, by the archive reading.
+// Looks up the name of a signal in a stored text read alone, by the archive reading, and puts it into the lent buffer as far as there is room.
 #[no_mangle]
 pub extern "C" fn harness_archive_name_alone(m: &[u8], signal: usize, out: &mut [u8]) -> Reply
     ensures { λ r. ⌜ r ≡ named (lookupNumberAlone Exact (now (m .entry)) signal) (lookupAlone Exact (now (m .entry)) signal .name) ⌝ }
@@ -131,7 +131,7 @@ pub extern "C" fn harness_archive_name_alone(m: &[u8], signal: usize, out: &mut 
     )
 }
 
-// The text of a table, in the lent buffer.
+// Writes the text of a table into the lent buffer.
 #[no_mangle]
 pub extern "C" fn harness_write(
     states: usize,
@@ -155,7 +155,7 @@ pub extern "C" fn harness_write(
     replies::written(writer::write(a, cells, name, names, out))
 }
 
-// What the program prints for two texts, in the lent buffer; returns where it ends.
+// Writes what the program prints for two texts into the lent buffer; returns where it ends.
 #[no_mangle]
 pub extern "C" fn harness_report<'a>(
     m: &'a [u8],
@@ -174,7 +174,7 @@ pub extern "C" fn harness_report<'a>(
     report::report(m, p, cm, cp, cells, flags, out)
 }
 
-// What the lister of clashes prints for two texts, in the lent buffer; returns where it ends.
+// Writes what the lister of clashes prints for two texts into the lent buffer; returns where it ends.
 #[no_mangle]
 pub extern "C" fn harness_list<'a>(
     m: &'a [u8],

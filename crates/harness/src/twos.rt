@@ -10,7 +10,7 @@ ghost use Rattle.harness.specs.Tables.{tableOf};
 use replies::Reply;
 use theory::Automaton;
 
-// The product; its cells are in the lent buffer.
+// Builds the product; its cells are in the lent buffer.
 #[no_mangle]
 pub extern "C" fn harness_product(
     states_a: usize,
@@ -43,7 +43,7 @@ pub extern "C" fn harness_product(
     replies::multiplied(composition::product(a, cells_a, b, cells_b, cells))
 }
 
-// Whether the tables fit; the flags are in the lent buffer.
+// Decides whether the tables fit; the flags are in the lent buffer.
 #[no_mangle]
 pub extern "C" fn harness_fit(
     states_a: usize,
@@ -76,7 +76,7 @@ pub extern "C" fn harness_fit(
     replies::fitted(compatibility::compatible(a, cells_a, b, cells_b, flags))
 }
 
-// The two composed; cells and flags are in the lent buffers.
+// Composes the tables; cells and flags are in the lent buffers.
 #[no_mangle]
 pub extern "C" fn harness_compose(
     states_a: usize,
@@ -111,7 +111,7 @@ pub extern "C" fn harness_compose(
     replies::composed(composition::compose(a, cells_a, b, cells_b, cells, flags))
 }
 
-// Whether the first table refines the second; the marks are in the lent buffer.
+// Decides whether the first table refines the second; the marks are in the lent buffer.
 #[no_mangle]
 pub extern "C" fn harness_refine(
     states_a: usize,
@@ -144,7 +144,7 @@ pub extern "C" fn harness_refine(
     replies::refined(refinement::refine(a, cells_a, b, cells_b, marks))
 }
 
-// The sequencer of a module and a plan; cells and flags are in the lent buffers.
+// Makes the sequencer of a module and a plan; cells and flags are in the lent buffers.
 #[no_mangle]
 pub extern "C" fn harness_synthesize(
     states_a: usize,

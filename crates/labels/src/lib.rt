@@ -1,4 +1,4 @@
-// The sequencer's text: its signals have the names that the module's and the plan's text gave them.
+// Writes the text of the controller (document 01: sequencer), whose signals have the names that the texts of module and plan gave them.
 ghost use mathlib.Core.Path.{_≡_};
 ghost use lib.ListN.{length};
 ghost use Rattle.theory.specs.Table.{table};
@@ -8,7 +8,7 @@ ghost use Rattle.labels.specs.Names.{sequencerWord, signalNames};
 use theory::Automaton;
 use writer::Printed;
 
-// The text of table `sequencer` in the lent buffer.
+// Writes the text of the table `sequencer` into the lent buffer, with the signal names of the module's text m and the plan's text p.
 pub fn write_text<'a>(
     m: &'a [u8],
     p: &'a [u8],

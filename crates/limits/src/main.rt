@@ -1,5 +1,5 @@
-// Program test of the limits: which sizes and numbers the calls take and which they refuse, by document 01's numbers (0: accepted).
-// What it writes is held to the file stdout.
+// Tests the limits: prints which sizes and numbers the calls accept and which they refuse, by document 01's numbers. The output is compared with
+// the file stdout.
 ghost use Prim.Native.Nat.{_≤_};
 ghost use Rattle.limits.specs.Room.{Room};
 use compatibility::Compatibility;

@@ -1,4 +1,4 @@
-// What the program `clashes` prints of two stored texts (document 02, S-9), in a lent buffer.
+// Makes every byte that the lister of clashes prints for two stored texts (document 02, S-9), in a lent buffer.
 ghost use mathlib.Core.Path.{_≡_};
 ghost use Prim.Native.Nat.{_≤_};
 ghost use lib.ListN.{length};
@@ -26,7 +26,8 @@ fn lines(out: &mut [u8], clashes: ClashList) -> usize
     at
 }
 
-// Lists the clashes of a stored module's and a stored plan's text, or gives the refusal of the archive reading, alone; returns the place after it.
+// Writes a line for each clash in the stored texts of a module and a plan; or, if the archive reading refuses them, the line of the refusal alone.
+// Returns the place after it, 768 at most.
 pub fn list<'a>(m: &'a [u8], p: &'a [u8], cm: &mut [u16], cp: &mut [u16], out: &mut [u8]) -> usize
     ensures { λ r. ⌜ r ≡ after (length (now (out .entry))) 0 (listingText (now (m .entry)) (now (p .entry)) (length (now (cm .entry))) (length (now (cp .entry)))) ⌝ }
     ensures { λ r. ⌜ now (out .exit) ≡ stored (now (out .entry)) 0 (listingText (now (m .entry)) (now (p .entry)) (length (now (cm .entry))) (length (now (cp .entry)))) ⌝ }

@@ -14,6 +14,8 @@ use follower::Followed;
 use refinement::Refined;
 use theory::Automaton;
 
+// Reply of `moqresam_fit`: the number of the refusal and the table at fault, both 0 if nothing is refused; the verdict; how many rounds drop a
+// pair; whether the refusal names a cell, and the state and signal of that cell, 0 if it names none.
 #[repr(C)]
 pub struct FitReply {
     pub number: u32,
@@ -25,6 +27,8 @@ pub struct FitReply {
     pub cell_signal: usize,
 }
 
+// Reply of `moqresam_refine`: the number of the refusal and the table at fault, both 0 if nothing is refused; the verdict; whether the refusal
+// names a cell, and the state and signal of that cell, 0 if it names none.
 #[repr(C)]
 pub struct RefineReply {
     pub number: u32,
@@ -35,6 +39,8 @@ pub struct RefineReply {
     pub cell_signal: usize,
 }
 
+// Reply of the follower: the number of the refusal and the table at fault, both 0 if nothing is refused; whether it moved, and the state that it is
+// in now; whether the refusal names a cell, and the state and signal of that cell, 0 if it names none.
 #[repr(C)]
 pub struct FollowReply {
     pub number: u32,
@@ -119,13 +125,14 @@ fn follow_reply(state: usize, f: Followed) -> FollowReply
     }
 }
 
-// The follower's record.
+// Record of a follower, which the caller lends: its state.
 #[repr(C)]
 pub struct Follower {
     pub state: usize,
 }
 
-// Whether two tables fit; the flags are in the lent buffer.
+// Decides whether two tables fit, and writes one flag for each state pair, with either verdict: 1 kept, 0 dropped. A refusal leaves the flags as
+// they were.
 #[no_mangle]
 pub extern "C" fn moqresam_fit(
     states_a: usize,
@@ -158,7 +165,7 @@ pub extern "C" fn moqresam_fit(
     fit_reply(packed_fit::fit(a, cells_a, b, cells_b, flags))
 }
 
-// How many flags are 1.
+// Counts the flags that are 1, in a buffer of any length.
 #[no_mangle]
 pub extern "C" fn moqresam_count_kept(flags: &[u8]) -> usize
     ensures { λ r. ⌜ r ≡ keptCount (now (flags .entry)) ⌝ }
@@ -166,7 +173,8 @@ pub extern "C" fn moqresam_count_kept(flags: &[u8]) -> usize
     counts::count_kept(flags)
 }
 
-// Whether the first table refines the second; the marks are in the lent buffer.
+// Decides whether the first table refines the second, and writes one mark for each state pair: 1 related, 0 not. A refusal leaves the marks as they
+// were.
 #[no_mangle]
 pub extern "C" fn moqresam_refine(
     states_a: usize,
@@ -199,7 +207,7 @@ pub extern "C" fn moqresam_refine(
     refine_reply(packed_refinement::refine(a, cells_a, b, cells_b, marks))
 }
 
-// The follower at a state, for a signal.
+// Makes one step of the follower from a state by a signal. The reply has the new state; at "not now" or a refusal, the state given.
 #[no_mangle]
 pub extern "C" fn moqresam_follow(
     states: usize,
@@ -221,7 +229,7 @@ pub extern "C" fn moqresam_follow(
     follow_reply(state, packed::follow(a, cells, state, signal))
 }
 
-// The follower as a record that the firmware lends: a step over the one by value.
+// Makes one step of the follower whose record the caller lends, and moves the record; at "not now" or a refusal the record stays as it was.
 #[no_mangle]
 pub extern "C" fn moqresam_follow_record(
     states: usize,

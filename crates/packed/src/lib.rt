@@ -1,4 +1,4 @@
-// The follower of tables whose cells are bytes, as a C program holds them.
+// The monitor (document 01: follower) of tables whose cells are bytes, as a C program holds them.
 ghost use mathlib.Core.Path.{_≡_};
 ghost use Rattle.follower.specs.Replies.{followReply};
 ghost use Rattle.cells.specs.Bytes.{byteTable};
@@ -6,7 +6,7 @@ use follower::Followed;
 use theory::Automaton;
 use theory::Checked;
 
-// One step of the monitor. It reads its own cell and no other, so a step takes as long in a large table as in a small one.
+// Makes one step of the monitor. It reads the one cell of the state and the signal, so a step takes as long in a large table as in a small one.
 pub fn follow(a: Automaton, bytes: &[u8], state: usize, signal: usize) -> Followed
     ensures { λ r. ⌜ r ≡ followReply (byteTable a (now (bytes .entry))) state signal ⌝ }
 {

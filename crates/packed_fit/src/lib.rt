@@ -1,4 +1,4 @@
-// Fit of two tables whose cells are bytes, as a C program holds them: the cells are unpacked into room of their own.
+// Compatibility (document 01: fit) of two tables whose cells are bytes, as a C program holds them. The cells are unpacked into room on the stack.
 ghost use mathlib.Core.Path.{_≡_};
 ghost use Prim.Native.Nat.{_≤_};
 ghost use lib.ListN.{length};
@@ -52,7 +52,8 @@ fn fit_4096(a: Automaton, ba: &[u8], b: Automaton, bb: &[u8], flags: &mut [u8]) 
     fit_in(&mut ca[0..n], &mut cb[0..m], a, ba, b, bb, flags)
 }
 
-// To blank the larger room takes longer than to judge small tables.
+// Decides whether two tables are compatible, with the reply and flags of `compatibility::compatible`. Small tables get less room, since clearing
+// the larger room takes longer than judging them.
 pub fn fit(a: Automaton, ba: &[u8], b: Automaton, bb: &[u8], flags: &mut [u8]) -> Compatibility
     ensures { λ r. ⌜ r ≡ compatibilityReply (byteTable a (now (ba .entry))) (byteTable b (now (bb .entry))) (length (now (flags .entry))) ⌝ }
     ensures { λ r. ⌜ now (flags .exit) ≡ compatibilityFlags (byteTable a (now (ba .entry))) (byteTable b (now (bb .entry))) (now (flags .entry)) ⌝ }

@@ -1,4 +1,4 @@
-// Refinement of two tables whose cells are bytes, as a C program holds them: the cells are unpacked into room of their own.
+// Refinement of two tables whose cells are bytes, as a C program holds them. The cells are unpacked into room on the stack.
 ghost use mathlib.Core.Path.{_≡_};
 ghost use Prim.Native.Nat.{_≤_};
 ghost use lib.ListN.{length};
@@ -52,7 +52,8 @@ fn refine_4096(a: Automaton, ba: &[u8], b: Automaton, bb: &[u8], marks: &mut [u8
     refine_in(&mut ca[0..n], &mut cb[0..m], a, ba, b, bb, marks)
 }
 
-// To blank the larger room takes longer than to judge small tables.
+// Decides whether the first table refines the second, with the reply and marks of `refinement::refine`. Small tables get less room, since clearing
+// the larger room takes longer than judging them.
 pub fn refine(a: Automaton, ba: &[u8], b: Automaton, bb: &[u8], marks: &mut [u8]) -> Refined
     ensures { λ r. ⌜ r ≡ refinementReply (byteTable a (now (ba .entry))) (byteTable b (now (bb .entry))) (length (now (marks .entry))) ⌝ }
     ensures { λ r. ⌜ now (marks .exit) ≡ refinementMarks (byteTable a (now (ba .entry))) (byteTable b (now (bb .entry))) (now (marks .entry)) ⌝ }

@@ -1,4 +1,4 @@
-// The lines that the programs print, put into a lent buffer: of a refusal and of a result (document 01, "The program and one full run"), and of a
+// Puts the lines that the programs print into a lent buffer: of a refusal and of a result (document 01, "The program and one full run"), and of a
 // clash (document 02, S-9). Each call returns the place after what it put.
 ghost use mathlib.Core.Path.{_≡_};
 ghost use Prim.Native.Nat.{_+_, _≤_};
@@ -7,7 +7,7 @@ ghost use Rattle.emit.specs.Buffer.{after, stored};
 ghost use Rattle.printout.specs.Lines.{refusalText, clashText, figures as figuresText, verdictText, figureText};
 use text::Clash;
 
-// The one line of a refusal.
+// Puts the line of a refusal: `refused`, file, number, line.
 pub fn refusal_line(out: &mut [u8], at: usize, file: u32, number: u32, line: usize) -> usize
     ensures { λ r. ⌜ r ≡ after (length (now (out .entry))) at (refusalText file number line) ⌝ }
     ensures { λ r. ⌜ now (out .exit) ≡ stored (now (out .entry)) at (refusalText file number line) ⌝ }
@@ -19,7 +19,7 @@ pub fn refusal_line(out: &mut [u8], at: usize, file: u32, number: u32, line: usi
     emit::number(out, k, line, 10)
 }
 
-// The one line of a clash.
+// Puts the line of a clash: file and line of the later name, then of the first one that it clashes with.
 pub fn clash_line(out: &mut [u8], at: usize, clash: Clash) -> usize
     ensures { λ r. ⌜ r ≡ after (length (now (out .entry))) at (clashText clash) ⌝ }
     ensures { λ r. ⌜ now (out .exit) ≡ stored (now (out .entry)) at (clashText clash) ⌝ }
@@ -54,7 +54,7 @@ fn figure(out: &mut [u8], at: usize, word: &[u8], n: usize) -> usize
     emit::number(out, i, n, 10)
 }
 
-// The six lines, from the buffer's first byte on.
+// Puts the six lines of a result, from the first byte of the buffer on.
 pub fn figures(
     out: &mut [u8],
     compatible: bool,

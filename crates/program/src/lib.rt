@@ -1,5 +1,5 @@
-// The programs but for their reading and printing: the main program (document 01, "The program and one full run") and the lister of clashes
-// (document 02, S-9).
+// What the programs print, from what they read: the program (document 01, "The program and one full run") and the lister of clashes (document 02,
+// S-9). Reading the files and printing are left to their crates.
 ghost use mathlib.Core.Path.{_≡_};
 ghost use Prim.Native.Nat.{_≤_};
 ghost use lib.ListN.{length};
@@ -11,7 +11,8 @@ mod lister;
 
 pub use lister::clashes;
 
-// The main program, by what came of its two files: 24 for the first unreadable one, else the report. Each text stands at the start of its buffer.
+// Writes all that the program prints, by the results of reading its two files: refusal 24 for the first unreadable one, else the report. Each text
+// stands at the start of its buffer. Returns the place after it, 65,608 at most.
 pub fn program<'a>(
     first: File,
     second: File,

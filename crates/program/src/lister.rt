@@ -1,4 +1,4 @@
-// The lister of clashes but for its reading and printing (document 02, S-9).
+// What the lister of clashes prints, from what it read (document 02, S-9).
 ghost use mathlib.Core.Path.{_≡_};
 ghost use Prim.Native.Nat.{_≤_};
 ghost use lib.ListN.{length};
@@ -6,7 +6,8 @@ ghost use Rattle.emit.specs.Buffer.{after, stored};
 ghost use Rattle.program.specs.Run.{clashesText, clashesCells};
 use files::File;
 
-// The lister of clashes, by what came of its two files: 24 for the first unreadable one, else what is listed. Each text stands at the start of its buffer.
+// Writes all that the lister of clashes prints, by the results of reading its two files: refusal 24 for the first unreadable one, else the list.
+// Each text stands at the start of its buffer. Returns the place after it, 768 at most.
 pub fn clashes<'a>(
     first: File,
     second: File,

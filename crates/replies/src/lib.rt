@@ -1,4 +1,4 @@
-// The library's replies as one record, which the C ABI can hand back: for tests and benchmarks.
+// Puts the replies of all calls into one record, which the C ABI can hand back: for tests and benchmarks.
 ghost use mathlib.Core.Path.{_≡_};
 ghost use Rattle.replies.specs.Replies.{noTable, wholeReply, bareReply, refusedReply, headedReply, bothReply, judged as judgedReply, mirrored as mirroredReply, followed as followedReply, multiplied as multipliedReply, fitted as fittedReply, composed as composedReply, refined as refinedReply, synthesized as synthesizedReply, aloneRead, togetherRead, written as writtenReply};
 use automaton::Mirrored;
@@ -16,7 +16,7 @@ use theory::Checked;
 use theory::Refusal;
 use writer::Printed;
 
-// What any call gives. A field that a call does not set is 0.
+// Reply of any call. A field that the call does not set is 0.
 #[repr(C)]
 pub struct Reply {
     // Document 01's number, 0 where nothing is refused; the table or text at fault; the line, for readings.
@@ -27,12 +27,12 @@ pub struct Reply {
     pub yes: bool,
     // Rounds, a state, or a length.
     pub value: usize,
-    // The numbers of the table given back.
+    // Header of the table given back; of the module, where two texts are read together.
     pub states: usize,
     pub initial: usize,
     pub inputs: u32,
     pub outputs: u32,
-    // Those of the plan, where two texts are read together.
+    // Header of the plan, where two texts are read together.
     pub states_2: usize,
     pub initial_2: usize,
     pub inputs_2: u32,
@@ -79,7 +79,7 @@ fn whole(s: Status, line: usize, verdict: bool, value: usize, a: Automaton, b: A
     }
 }
 
-// No table is given back, and no cell is at fault.
+// Makes a reply that gives back no table and names no cell.
 pub fn bare(number: u32, table: u32, line: usize, verdict: bool, value: usize) -> Reply
     ensures { λ r. ⌜ r ≡ bareReply number table line verdict value ⌝ }
 {
@@ -114,6 +114,7 @@ fn both(a: Automaton, b: Automaton) -> Reply
     whole(automaton::accepted(), 0, false, 0, a, b)
 }
 
+// Puts the reply of `automaton::judge` into the record.
 pub fn judged(c: Checked) -> Reply
     ensures { λ r. ⌜ r ≡ judgedReply c ⌝ }
 {
@@ -123,6 +124,7 @@ pub fn judged(c: Checked) -> Reply
     }
 }
 
+// Puts the reply of `automaton::mirror` into the record.
 pub fn mirrored(c: Mirrored) -> Reply
     ensures { λ r. ⌜ r ≡ mirroredReply c ⌝ }
 {
@@ -132,6 +134,7 @@ pub fn mirrored(c: Mirrored) -> Reply
     }
 }
 
+// Puts the reply of `follower::follow` into the record; the value is the state after it, which is `state` if the follower did not move.
 pub fn followed(state: usize, c: Followed) -> Reply
     ensures { λ r. ⌜ r ≡ followedReply state c ⌝ }
 {
@@ -142,6 +145,7 @@ pub fn followed(state: usize, c: Followed) -> Reply
     }
 }
 
+// Puts the reply of `composition::product` into the record.
 pub fn multiplied(c: Built) -> Reply
     ensures { λ r. ⌜ r ≡ multipliedReply c ⌝ }
 {
@@ -151,6 +155,7 @@ pub fn multiplied(c: Built) -> Reply
     }
 }
 
+// Puts the reply of `compatibility::compatible` into the record; the value is the number of rounds.
 pub fn fitted(c: Compatibility) -> Reply
     ensures { λ r. ⌜ r ≡ fittedReply c ⌝ }
 {
@@ -160,6 +165,7 @@ pub fn fitted(c: Compatibility) -> Reply
     }
 }
 
+// Puts the reply of `composition::compose` into the record; the value is the number of rounds.
 pub fn composed(c: Composition) -> Reply
     ensures { λ r. ⌜ r ≡ composedReply c ⌝ }
 {
@@ -173,6 +179,7 @@ pub fn composed(c: Composition) -> Reply
     }
 }
 
+// Puts the reply of `refinement::refine` into the record.
 pub fn refined(c: Refined) -> Reply
     ensures { λ r. ⌜ r ≡ refinedReply c ⌝ }
 {
@@ -182,6 +189,7 @@ pub fn refined(c: Refined) -> Reply
     }
 }
 
+// Puts the reply of `synthesis::synthesize` into the record; the value is the number of rounds.
 pub fn synthesized(c: Synthesis) -> Reply
     ensures { λ r. ⌜ r ≡ synthesizedReply c ⌝ }
 {
@@ -192,6 +200,7 @@ pub fn synthesized(c: Synthesis) -> Reply
     }
 }
 
+// Puts the reply to a text read alone into the record.
 pub fn read_alone(c: Alone) -> Reply
     ensures { λ r. ⌜ r ≡ aloneRead c ⌝ }
 {
@@ -201,6 +210,7 @@ pub fn read_alone(c: Alone) -> Reply
     }
 }
 
+// Puts the reply to two texts read together into the record.
 pub fn read_together(c: Together) -> Reply
     ensures { λ r. ⌜ r ≡ togetherRead c ⌝ }
 {
@@ -213,6 +223,7 @@ pub fn read_together(c: Together) -> Reply
     }
 }
 
+// Puts the reply of `writer::write` into the record; the value is the length of the text.
 pub fn written(c: Printed) -> Reply
     ensures { λ r. ⌜ r ≡ writtenReply c ⌝ }
 {

@@ -1,4 +1,4 @@
-// All that the program prints for two texts (document 01, "The program and one full run"), made in a lent buffer.
+// Makes every byte that the program prints for two texts (document 01, "The program and one full run"), in a lent buffer.
 ghost use mathlib.Core.Path.{_≡_};
 ghost use mathlib.Core.Bool.{true, cond};
 ghost use Prim.Native.Nat.{_*_, _≤_};
@@ -256,9 +256,10 @@ fn clear_if(refused: bool, cells: &mut [u16])
     }
 }
 
-// Reads the module's and the plan's text, makes the sequencer, and writes what is to be printed; returns where that ends, one past the
-// buffer's end if it did not fit. That is 65,608 at most: 72 bytes for the six lines, 65,536 for the text. The four cell and flag buffers are
-// the program's. Where the answer is a refusal, `cm` and `cp` are left without steps, and `cells` and `flags` as they were.
+// Reads the text m of the module and p of the plan, makes the sequencer, and writes what is to be printed. Returns where that ends: 65,608 at most
+// (72 bytes for the six lines, 65,536 for the text), or one past the end of `out` if it did not fit. The cells of the two tables are left in `cm`
+// and `cp`, those of the sequencer in `cells`, and its flags in `flags`. A refusal leaves `cm` and `cp` without steps, and `cells` and `flags` as
+// they were.
 pub fn report<'a>(
     m: &'a [u8],
     p: &'a [u8],

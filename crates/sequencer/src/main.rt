@@ -1,18 +1,17 @@
-// The program (document 01, "The program and one full run"): reads module.tab and plan.tab in the current folder and prints the report
-// of the two. Which line or lines that is, also of a file that cannot be read, is the library's; here files are read, room is lent and the
-// report is written out.
+// The program (document 01, "The program and one full run"): reads module.tab and plan.tab in the current folder and prints their report. The
+// library makes every byte of the report, also for a file that cannot be read; here files are read, room is lent and the report is printed.
 ghost use mathlib.Core.Path.{_≡_};
 ghost use lib.ListN.{length};
 use libc::STDOUT_FILENO;
 
-// A program of this kit cannot end with a status of its own; so a report that could not be written is told of on standard error.
+// Prints the report; if that fails, says so on standard error, since a program of this kit cannot choose its exit status.
 fn print(report: &[u8]) {
     if !io::write_all(STDOUT_FILENO, report) {
         os::fail(b"sequencer: the report could not be written");
     }
 }
 
-// Both files are read before any text is looked at. Nothing of the report is cut: it has 65,608 bytes at most.
+// Reads both files before any text is looked at. Nothing of the report is cut off: it has 65,608 bytes at most.
 fn run(
     m: &mut [u8],
     p: &mut [u8],
@@ -30,7 +29,7 @@ fn run(
     print(&out[0..n]);
 }
 
-// Room for 1,024 pairs, and for a byte more of each file than the longest text, or one too long would not be noticed.
+// Lends room for 1,024 pairs, and for one byte more than the longest text, so that a longer file is noticed.
 fn main() {
     let mut m = [0u8; 65537];
     let mut p = [0u8; 65537];
