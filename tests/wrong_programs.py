@@ -6,12 +6,13 @@ it stood alone, and one check of the crate tries them all.
 
 Of each wrong program two lines come before its changes, which rt passes over:
 
-    shows: T-5 S-4.2: fewer entries than states are searched
+    shows: S-4.5: states without a set are searched
     fails: mark_reached
 
-`shows:` has the requirements of docs/CLAIMS.md that it belongs to, where there are any, and the wrong reading. `fails:` has what is false under it, but
-for the contract of the function whose body it changes, of which a fact has to fail in any case (tests/edits.py): the functions whose contracts fail, and
-the laws. tests/claims.py holds the two lines to the tree.
+`shows:` has the rows of docs/CLAIMS.md that it belongs to, where there are any, and the wrong reading. `fails:` names what else is false under it: laws,
+and functions whose contracts fail. The function whose body it changes is not named, since a fact of it has to fail in any case (tests/edits.py); where it
+changes no single function, the line has to be there. A name is one of the crate; `proofs/Entries: declaring-clash` says in which file, `text: listed` in
+which other crate; `;` parts such groups, and after a dash come words of why, with names in backticks. tests/claims.py holds the two lines to the tree.
 
 A wrong program may bring its proof along, where its code has another shape than the right one: lines of the proof of the one function whose body it
 changes. Then all that can be proved of it is, and what fails is the fact that it breaks; that the lines are as good as they can be is for the reader
