@@ -93,7 +93,7 @@ def program(crate, name, lines):
             changes.append((file, functions.containing(crate, file, old), old, words))
     shows, fails = SHOWS.fullmatch(said["shows"]), said.get("fails")
     if shows is None or fails == "":
-        raise ValueError(f"{name}: `shows:` has no requirements and a sentence that begins small, or `fails:` has no words")
+        raise ValueError(f"{name}: `shows:` is no sentence that begins small, behind ids and a colon where there are any; or `fails:` is empty")
     if not is_well_formed(changes):
         raise ValueError(f"{name}: it changes nothing, or a proof that is not that of the one function whose body it changes")
     if fails is None and changed_by(changes) is None:
