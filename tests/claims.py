@@ -21,7 +21,7 @@ from wrong_programs import trials, unfit_together
 
 TOP = os.path.join(os.path.dirname(os.path.abspath(__file__)), "..")
 CLAIMS = "docs/CLAIMS.md"
-DOCUMENTS = [CLAIMS, "docs/PROMISES.md"] + [path for path in ("docs/GLOSSARY.md", "docs/PROVING.md") if os.path.exists(os.path.join(TOP, path))]
+DOCUMENTS = [CLAIMS] + [f"docs/{name}.md" for name in ("PROMISES", "GLOSSARY", "PROVING", "ARCHITECTURE", "DECISIONS", "REFERENCE")] + ["README.md"]
 # The tests' own crates, which are no part of the library.
 INSTRUMENTS = {"harness", "replies"}
 # What a row says in place of a list that is worked out here.
