@@ -44,6 +44,7 @@ mod refine;
 mod reply;
 mod run_program;
 mod selftest;
+mod smaller;
 mod spellings;
 mod substitution;
 mod synth;
