@@ -4,7 +4,9 @@ use crate::bytes::{from_bytes, to_bytes};
 use crate::cases::Cases;
 use crate::lent::Lent;
 use crate::random::Random;
-use crate::random_tables::{chain, chain_allowed, damage, meeting_tables, module_and_plan, refining_tables, sizes};
+use crate::random_tables::{
+    chain, chain_allowed, damage, meeting_tables, module_and_plan, refining_tables, sizes, sizes_about_the_smaller_room,
+};
 use crate::reply::Reply;
 use crate::table::{members, Fault, Table, MOST_STATES, NO_STEP, SIGNALS};
 use crate::tally::Tally;
@@ -32,7 +34,7 @@ use Call::*;
 /// The calls, with the ones that have more to go wrong drawn more often.
 const DRAWN: &[Call] = &[
     Judge, Mirror, Follow, Product, Fit, Fit, Compose, Compose, Refine, Refine, Synthesize, Synthesize, Synthesize,
-    CountKept, CountSteps, CFit, CRefine, CFollow, CFollowRecord,
+    CountKept, CountSteps, CFit, CFit, CRefine, CRefine, CFollow, CFollow, CFollowRecord, CFollowRecord,
 ];
 
 /// The arguments of a call: all of them are there, whichever the call takes, and all are compared afterwards.
@@ -95,6 +97,7 @@ pub fn run(cases: &Cases, tally: &mut Tally) {
     // The rarest place comes about once in 6,000 cases.
     if cases.are_at_least(50_000) {
         ask_for_all_places(tally);
+        ask_for_all_sizes(tally);
     }
 }
 
@@ -183,7 +186,7 @@ fn counted(value: usize) -> Reply {
 
 fn random_case(r: &mut Random) -> Case {
     let call = r.pick(DRAWN);
-    let sizes = sizes(r);
+    let sizes = if takes_bytes(call) && r.percent(5) { sizes_about_the_smaller_room(r) } else { sizes(r) };
     let (mut a, mut b) = match call {
         Synthesize => module_and_plan(r, sizes),
         Refine | CRefine => refining_tables(r, sizes),
@@ -274,7 +277,7 @@ fn damage_own_cell(r: &mut Random, table: &mut Table, state: usize, signal: usiz
 /// The cells as bytes; of a damaged case, at times not the right number of them.
 fn random_bytes(r: &mut Random, table: &Table, faults: usize) -> Vec<u8> {
     let mut bytes = to_bytes(&table.cells);
-    if faults > 0 && r.percent(10) {
+    if faults > 0 && r.percent(15) {
         let length = bytes.len();
         bytes.resize(r.pick(&[0, length / 2, length.saturating_sub(1), length + 1, length + 2, length + 64]), 255);
     }
@@ -305,6 +308,35 @@ fn record(tally: &mut Tally, done: &Case, reply: &Reply) {
     if reply.number == 0 && reply.value > 0 && matches!(call, Fit | Compose | Synthesize | CFit) {
         tally.saw(&dropping(call, reply.yes));
     }
+    if let Some(sizes) = telling_sizes(done, reply).filter(|_| takes_bytes(call)) {
+        tally.saw(&with_sizes(call, sizes));
+    }
+}
+
+const ABOVE_THE_SMALLER_ROOM: &str = "accepted, with 65 to 80 states";
+const A_BYTE_SHORT: &str = "a byte too few";
+const A_BYTE_OVER: &str = "a byte too many";
+const A_FLAG_SHORT: &str = "a flag too few";
+const A_FLAG_OVER: &str = "a flag too many";
+
+/// Sizes that tell the right calls for C from wrong ones: tables that need the larger room, and lengths that are off by one.
+fn telling_sizes(Case { a, b, a_bytes, b_bytes, flags, .. }: &Case, reply: &Reply) -> Option<&'static str> {
+    let (table, bytes) = if reply.table == 2 { (b, b_bytes) } else { (a, a_bytes) };
+    let off_by_one = |length: usize, right: usize, short, over| match length.wrapping_sub(right) {
+        1 => Some(over),
+        usize::MAX => Some(short),
+        _ => None,
+    };
+    match reply.number {
+        0 if (65..=80).contains(&a.states.max(b.states)) => Some(ABOVE_THE_SMALLER_ROOM),
+        4 => off_by_one(bytes.len(), 2 * SIGNALS * table.states, A_BYTE_SHORT, A_BYTE_OVER),
+        10 => off_by_one(flags.len(), a.states * b.states, A_FLAG_SHORT, A_FLAG_OVER),
+        _ => None,
+    }
+}
+
+fn with_sizes(call: Call, sizes: &str) -> String {
+    format!("{call:?}: {sizes}")
 }
 
 fn outcome(call: Call, number: u32, table: u32, yes: bool) -> String {
@@ -352,6 +384,18 @@ fn ask_for_all_places(tally: &mut Tally) {
     for call in DRAWN.iter().copied() {
         for (number, table) in refusals(call) {
             places::ask(tally, &outcome(call, number, table, false), number, is_follower(call));
+        }
+    }
+}
+
+fn ask_for_all_sizes(tally: &mut Tally) {
+    for call in [CFit, CRefine, CFollow, CFollowRecord] {
+        tally.must_have_seen(&with_sizes(call, A_BYTE_SHORT));
+        tally.must_have_seen(&with_sizes(call, A_BYTE_OVER));
+    }
+    for call in [CFit, CRefine] {
+        for sizes in [ABOVE_THE_SMALLER_ROOM, A_FLAG_SHORT, A_FLAG_OVER] {
+            tally.must_have_seen(&with_sizes(call, sizes));
         }
     }
 }

@@ -42,6 +42,12 @@ pub fn sizes(r: &mut Random) -> Sizes {
     }
 }
 
+/// A few states for one table and for the other about as many as the calls for C have the smaller room for, which is 64.
+pub fn sizes_about_the_smaller_room(r: &mut Random) -> Sizes {
+    let (few, many) = (r.between(1, 4), r.between(60, 80));
+    r.pick(&[(many, few), (few, many)])
+}
+
 /// Two tables that may be composed, or, rarely, have an output in common.
 pub fn meeting_tables(r: &mut Random, sizes: Sizes) -> (Table, Table) {
     let (mut a, mut b) = blank_pair(r, sizes, MEETING, &[OUTPUT_OF_BOTH]);
