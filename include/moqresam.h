@@ -9,11 +9,12 @@
  *     moqresam_fit_reply r = moqresam_fit_tables(&a, &b, flags, sizeof flags);
  *     puts(r.number != MOQRESAM_ACCEPTED ? moqresam_refusal_text(r.number) : r.compatible ? "they fit" : "they do not fit");
  *
- * examples/bench.c is a whole program. The words are document 01's; in brackets stands what the literature says.
+ * examples/bench.c is a whole program. `make archives` builds the archive; compile with -Iinclude and link with -Ltarget/staticlib -lmoqresam. The
+ * words are document 01's; in brackets stands what the literature says.
  *
- * Every call takes every argument and ends with an answer or with a refusal. If several refusals apply, the first in the order of the call's checks
- * is given; for two tables, checks 1 to 6 of the first table come before those of the second. A refused call leaves the flags, the marks and the
- * follower as they were.
+ * A call may be given any numbers and bytes: it ends with an answer or with a refusal. If several refusals apply, the first in the order of the
+ * call's checks is given; for two tables, checks 1 to 6 of the first table come before those of the second. A refused call leaves the flags, the
+ * marks and the follower as they were.
  *
  * No call can check its pointers, so a caller has to see to them: a pointer is to as many bytes as the length beside it says, or NULL with length 0;
  * a buffer that a call writes to does not overlap one that it reads; a pointer to a table or to a follower is never NULL.
@@ -54,7 +55,7 @@ extern "C" {
 
 /*
  * The bytes of stack that a call uses at most, from its caller's frame on: fit and refine; fit and refine where they are refused; follow and count.
- * A thread that makes such a call has to have so much beside what it needs for itself.
+ * A thread that makes such a call needs so much on top of its own.
  */
 #define MOQRESAM_STACK_OF_TWO_TABLES 1179648u
 #define MOQRESAM_STACK_OF_REFUSAL 557056u
@@ -102,7 +103,7 @@ static inline void moqresam_write_cell(uint8_t *cells, size_t state, size_t sign
     cell[1] = next >> 8 & 255u;
 }
 
-/* Makes a table without steps, whose first state is 0. It lends the cells: states * MOQRESAM_STATE_BYTES bytes, which stay the caller's. */
+/* Makes a table without steps, whose first state is 0, over cells that the caller keeps as long: states * MOQRESAM_STATE_BYTES bytes. */
 static inline moqresam_table moqresam_blank_table(uint8_t *cells, size_t states, uint32_t inputs, uint32_t outputs)
 {
     moqresam_table table = {states, 0, inputs, outputs, cells, states * MOQRESAM_STATE_BYTES};
@@ -122,8 +123,8 @@ static inline size_t moqresam_pairs(const moqresam_table *a, const moqresam_tabl
 /* ---- Refusals */
 
 /*
- * Why a call is refused: the `number` of a reply. These are the numbers that the calls below give; moqresam_refusal_text has words for them, and for
- * those that the program prints, which docs/REFERENCE.md lists too.
+ * Why a call is refused: the `number` of a reply. These are the numbers that the calls below give. moqresam_refusal_text has words for them and for
+ * the further ones that the program prints; docs/REFERENCE.md has the same words, and what helps.
  */
 enum moqresam_refusal {
     MOQRESAM_ACCEPTED = 0,
