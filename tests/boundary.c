@@ -1,9 +1,9 @@
 /*
- * Tests of every exported function, over include/moqresam.h: replies field by field, lent buffers and the lent record, accepted and refused.
- * The expected flags and marks were worked out by hand from document 01's rules. The last line is 'N passed, M failed'.
+ * Tests of every exported function and of every function of include/moqresam.h: replies field by field, lent buffers and the lent record, accepted
+ * and refused. Every call is made in both forms, on the parts of a table and on moqresam_table, which have to answer alike. The expected flags and
+ * marks were worked out by hand from document 01's rules. The last line is 'N passed, M failed'.
  */
 #include "moqresam.h"
-#include "refusal.h"
 
 #include <stdio.h>
 #include <stdlib.h>
@@ -15,14 +15,44 @@
 
 enum { POWER, SETTLED, START, READ };
 
-struct table {
-    size_t states;
-    size_t initial;
-    uint32_t inputs;
-    uint32_t outputs;
-    uint8_t *cells;
-    size_t length;
+/* What the replies of all calls say alike: why a call is refused, which table is at fault, and where. */
+struct refusal {
+    uint32_t number;
+    uint32_t table;
+    bool placed;
+    size_t state;
+    size_t signal;
 };
+
+/* Accepted calls and "not now". */
+static const struct refusal accepted = {MOQRESAM_ACCEPTED, 0, false, 0, 0};
+
+static struct refusal refusal(uint32_t number, uint32_t table, bool placed, size_t state, size_t signal)
+{
+    struct refusal r = {number, table, placed, state, signal};
+
+    return r;
+}
+
+/* A refusal with a place: 1 to 6. */
+static struct refusal at(uint32_t number, uint32_t table, size_t state, size_t signal)
+{
+    return refusal(number, table, true, state, signal);
+}
+
+/* A refusal without a place: 7 and up. */
+static struct refusal nowhere(uint32_t number, uint32_t table)
+{
+    return refusal(number, table, false, 0, 0);
+}
+
+/* What a reply, of whichever call, says of it. */
+#define REFUSAL(reply) refusal((reply).number, (reply).table, (reply).placed, (reply).cell_state, (reply).cell_signal)
+
+static bool same(struct refusal r, struct refusal s)
+{
+    return r.number == s.number && r.table == s.table && r.placed == s.placed && r.state == s.state && r.signal == s.signal;
+}
 
 static int passed;
 static int failed;
@@ -42,39 +72,38 @@ static uint8_t *made[1024];
 static size_t made_count;
 
 /* A table without steps; two bytes more than it needs, for lengths that are off. */
-static struct table blank(size_t states, uint32_t inputs, uint32_t outputs)
+static moqresam_table blank(size_t states, uint32_t inputs, uint32_t outputs)
 {
-    struct table t = {states, 0, inputs, outputs, NULL, states * MOQRESAM_STATE_BYTES};
+    size_t length = states * MOQRESAM_STATE_BYTES + 2;
+    uint8_t *cells = malloc(length);
 
-    t.cells = malloc(t.length + 2);
-    if (t.cells == NULL || made_count == sizeof made / sizeof made[0])
+    if (cells == NULL || made_count == sizeof made / sizeof made[0])
         abort();
-    made[made_count++] = t.cells;
-    memset(t.cells, 0xff, t.length + 2);
-    return t;
+    made[made_count++] = cells;
+    memset(cells, 0xff, length);
+    return moqresam_blank_table(cells, states, inputs, outputs);
 }
 
-/* Writes a step into the cells, which all copies of a table share. */
-static struct table step(struct table t, size_t from, size_t signal, size_t to)
+/* Writes a step into the cells, which all copies of a table share, and which blank() made. */
+static moqresam_table step(moqresam_table t, size_t from, size_t signal, size_t to)
 {
-    t.cells[2 * (from * 32 + signal)] = (uint8_t)(to & 0xff);
-    t.cells[2 * (from * 32 + signal) + 1] = (uint8_t)(to >> 8);
+    moqresam_write_cell((uint8_t *)t.cells, from, signal, to);
     return t;
 }
 
-static struct table ref(void)
+static moqresam_table ref(void)
 {
     return step(step(blank(3, SET(POWER), SET(SETTLED)), 0, POWER, 1), 1, SETTLED, 2);
 }
 
-static struct table cal(void)
+static moqresam_table cal(void)
 {
-    struct table t = blank(4, SET(SETTLED), SET(POWER) | SET(READ));
+    moqresam_table t = blank(4, SET(SETTLED), SET(POWER) | SET(READ));
 
     return step(step(step(t, 0, POWER, 1), 1, SETTLED, 2), 2, READ, 3);
 }
 
-static struct table hasty(void)
+static moqresam_table hasty(void)
 {
     return step(step(blank(3, SET(SETTLED), SET(POWER) | SET(READ)), 0, POWER, 1), 1, READ, 2);
 }
@@ -104,26 +133,47 @@ static bool holds(const char *text)
     return true;
 }
 
-/* ---- fit */
+/* What the first of two calls left in the room. */
+static uint8_t first_room[sizeof room];
 
-static moqresam_fit_reply fit(struct table a, struct table b, size_t length)
+/* Lends the room anew for the second of two calls. */
+static uint8_t *lend_again(void)
 {
-    return moqresam_fit(a.states, a.initial, a.inputs, a.outputs, a.cells, a.length,
-        b.states, b.initial, b.inputs, b.outputs, b.cells, b.length, lend(), length);
+    memcpy(first_room, room, sizeof room);
+    return lend();
 }
 
-static void fits(const char *what, struct table a, struct table b, bool compatible, size_t rounds, const char *flags)
+/* Whether the second call left the same as the first. */
+static bool same_room(void)
+{
+    return memcmp(first_room, room, sizeof room) == 0;
+}
+
+/* ---- fit */
+
+static moqresam_fit_reply fit(moqresam_table a, moqresam_table b, size_t length)
+{
+    moqresam_fit_reply by_parts = moqresam_fit(a.states, a.initial, a.inputs, a.outputs, a.cells, a.cells_length,
+        b.states, b.initial, b.inputs, b.outputs, b.cells, b.cells_length, lend(), length);
+    moqresam_fit_reply r = moqresam_fit_tables(&a, &b, lend_again(), length);
+
+    check("fit of tables", same(REFUSAL(r), REFUSAL(by_parts)) && r.compatible == by_parts.compatible && r.rounds == by_parts.rounds);
+    check("fit of tables, the flags", same_room());
+    return r;
+}
+
+static void fits(const char *what, moqresam_table a, moqresam_table b, bool compatible, size_t rounds, const char *flags)
 {
     moqresam_fit_reply r = fit(a, b, strlen(flags));
 
-    check(what, SAYS(r, accepted) && r.compatible == compatible && r.rounds == rounds && holds(flags));
+    check(what, same(REFUSAL(r), accepted) && r.compatible == compatible && r.rounds == rounds && holds(flags));
 }
 
-static void fit_refused(const char *what, struct table a, struct table b, size_t length, struct refusal wanted)
+static void fit_refused(const char *what, moqresam_table a, moqresam_table b, size_t length, struct refusal wanted)
 {
     moqresam_fit_reply r = fit(a, b, length);
 
-    check(what, SAYS(r, wanted) && !r.compatible && r.rounds == 0 && holds(""));
+    check(what, same(REFUSAL(r), wanted) && !r.compatible && r.rounds == 0 && holds(""));
 }
 
 /* ---- the count */
@@ -170,96 +220,120 @@ static bool counts_every_length(void)
 
 /* ---- refinement */
 
-static moqresam_refine_reply refine(struct table a, struct table b, size_t length)
+static moqresam_refine_reply refine(moqresam_table a, moqresam_table b, size_t length)
 {
-    return moqresam_refine(a.states, a.initial, a.inputs, a.outputs, a.cells, a.length,
-        b.states, b.initial, b.inputs, b.outputs, b.cells, b.length, lend(), length);
+    moqresam_refine_reply by_parts = moqresam_refine(a.states, a.initial, a.inputs, a.outputs, a.cells, a.cells_length,
+        b.states, b.initial, b.inputs, b.outputs, b.cells, b.cells_length, lend(), length);
+    moqresam_refine_reply r = moqresam_refine_tables(&a, &b, lend_again(), length);
+
+    check("refinement of tables", same(REFUSAL(r), REFUSAL(by_parts)) && r.refines == by_parts.refines);
+    check("refinement of tables, the marks", same_room());
+    return r;
 }
 
-static void refines(const char *what, struct table a, struct table b, bool verdict, const char *marks)
+static void refines(const char *what, moqresam_table a, moqresam_table b, bool verdict, const char *marks)
 {
     moqresam_refine_reply r = refine(a, b, strlen(marks));
 
-    check(what, SAYS(r, accepted) && r.refines == verdict && holds(marks));
+    check(what, same(REFUSAL(r), accepted) && r.refines == verdict && holds(marks));
 }
 
-static void refine_refused(const char *what, struct table a, struct table b, size_t length, struct refusal wanted)
+static void refine_refused(const char *what, moqresam_table a, moqresam_table b, size_t length, struct refusal wanted)
 {
     moqresam_refine_reply r = refine(a, b, length);
 
-    check(what, SAYS(r, wanted) && !r.refines && holds(""));
+    check(what, same(REFUSAL(r), wanted) && !r.refines && holds(""));
 }
 
-/* ---- the follower: by value and by record, which must say the same */
+/* ---- the follower: by value and by record, of parts and of tables, which must say the same */
 
-static void follows(const char *what, struct table t, size_t state, size_t signal, struct refusal wanted, bool moved, size_t next)
+/* What a call of the follower must give. */
+struct followed {
+    struct refusal refusal;
+    bool moved;
+    size_t state;
+};
+
+static bool replies(moqresam_follow_reply r, struct followed wanted)
 {
-    moqresam_follow_reply r = moqresam_follow(t.states, t.initial, t.inputs, t.outputs, t.cells, t.length, state, signal);
-    moqresam_follower record[3] = {{17}, {state}, {19}};
-    moqresam_follow_reply s =
-        moqresam_follow_record(t.states, t.initial, t.inputs, t.outputs, t.cells, t.length, &record[1], signal);
-
-    check(what, SAYS(r, wanted) && r.moved == moved && r.state == next);
-    check(what, SAYS(s, wanted) && s.moved == moved && s.state == next);
-    check(what, record[0].state == 17 && record[1].state == next && record[2].state == 19);
+    return same(REFUSAL(r), wanted.refusal) && r.moved == wanted.moved && r.state == wanted.state;
 }
 
-static void moves(const char *what, struct table t, size_t state, size_t signal, size_t next)
+static void follows(const char *what, moqresam_table t, size_t state, size_t signal, struct followed wanted)
 {
-    follows(what, t, state, signal, accepted, true, next);
+    moqresam_follower record[] = {{17}, {state}, {18}, {state}, {19}};
+
+    check(what, replies(moqresam_follow(t.states, t.initial, t.inputs, t.outputs, t.cells, t.cells_length, state, signal), wanted));
+    check(what, replies(moqresam_follow_table(&t, state, signal), wanted));
+    check(what,
+        replies(moqresam_follow_record(t.states, t.initial, t.inputs, t.outputs, t.cells, t.cells_length, &record[1], signal), wanted));
+    check(what, replies(moqresam_follow_table_record(&t, &record[3], signal), wanted));
+    check(what, record[1].state == wanted.state && record[3].state == wanted.state);
+    check(what, record[0].state == 17 && record[2].state == 18 && record[4].state == 19);
 }
 
-static void not_now(const char *what, struct table t, size_t state, size_t signal)
+static void moves(const char *what, moqresam_table t, size_t state, size_t signal, size_t next)
 {
-    follows(what, t, state, signal, accepted, false, state);
+    struct followed wanted = {accepted, true, next};
+
+    follows(what, t, state, signal, wanted);
 }
 
-static void follow_refused(const char *what, struct table t, size_t state, size_t signal, struct refusal wanted)
+static void not_now(const char *what, moqresam_table t, size_t state, size_t signal)
 {
-    follows(what, t, state, signal, wanted, false, state);
+    struct followed wanted = {accepted, false, state};
+
+    follows(what, t, state, signal, wanted);
+}
+
+static void follow_refused(const char *what, moqresam_table t, size_t state, size_t signal, struct refusal why)
+{
+    struct followed wanted = {why, false, state};
+
+    follows(what, t, state, signal, wanted);
 }
 
 /* ---- tables with something wrong */
 
-static struct table initial_at(struct table t, size_t initial)
+static moqresam_table initial_at(moqresam_table t, size_t initial)
 {
     t.initial = initial;
     return t;
 }
 
-static struct table lists(struct table t, uint32_t inputs, uint32_t outputs)
+static moqresam_table lists(moqresam_table t, uint32_t inputs, uint32_t outputs)
 {
     t.inputs = inputs;
     t.outputs = outputs;
     return t;
 }
 
-static struct table bytes(struct table t, size_t length)
+static moqresam_table bytes(moqresam_table t, size_t length)
 {
-    t.length = length;
+    t.cells_length = length;
     return t;
 }
 
-static struct table states(struct table t, size_t count)
+static moqresam_table states(moqresam_table t, size_t count)
 {
     t.states = count;
     return t;
 }
 
-static struct table nothing(struct table t)
+static moqresam_table nothing(moqresam_table t)
 {
     t.cells = NULL;
-    t.length = 0;
+    t.cells_length = 0;
     return t;
 }
 
 /* ---- */
 
 /* What the calls on two tables refuse alike: checks 1 to 6 of the table at fault, in their order, each with its place. */
-typedef void refused_call(const char *what, struct table a, struct table b, size_t length, struct refusal wanted);
+typedef void refused_call(const char *what, moqresam_table a, moqresam_table b, size_t length, struct refusal wanted);
 
 /* The k-th fault of a list, in the first table, where it comes before any of the second, and in the second. */
-static void fault(const char *call, refused_call *refused, size_t k, struct table bad, struct refusal wanted)
+static void fault(const char *call, refused_call *refused, size_t k, moqresam_table bad, struct refusal wanted)
 {
     char what[80];
 
@@ -274,9 +348,9 @@ static void fault(const char *call, refused_call *refused, size_t k, struct tabl
 /* Checks 1 to 4 name state 0, signal 0. */
 static void shape_faults(const char *call, refused_call *refused)
 {
-    struct table both = lists(ref(), 3, 3);
+    moqresam_table both = lists(ref(), 3, 3);
     struct {
-        struct table t;
+        moqresam_table t;
         uint32_t number;
     } bad[] = {
         {states(ref(), 0), 1},
@@ -311,7 +385,7 @@ static void shape_faults(const char *call, refused_call *refused)
 static void cell_faults(const char *call, refused_call *refused)
 {
     struct {
-        struct table t;
+        moqresam_table t;
         struct refusal wanted;
     } bad[] = {
         {step(ref(), 2, 31, 3), at(5, 1, 2, 31)},
@@ -353,9 +427,9 @@ static bool all_are(size_t count, uint8_t value)
 
 static void test_fit(void)
 {
-    struct table one = blank(1, 0, 0);
-    struct table sender = step(blank(300, 0, SET(5)), 0, 5, 258);
-    struct table taker = step(blank(1, SET(5), 0), 0, 5, 0);
+    moqresam_table one = blank(1, 0, 0), none = nothing(states(one, 0));
+    moqresam_table sender = step(blank(300, 0, SET(5)), 0, 5, 258);
+    moqresam_table taker = step(blank(1, SET(5), 0), 0, 5, 0);
 
     fits("ref fits cal", ref(), cal(), true, 1, "111101000111");
     fits("cal fits ref", cal(), ref(), true, 1, "100111101101");
@@ -381,8 +455,11 @@ static void test_fit(void)
     taker = step(blank(2, SET(5), SET(6)), 0, 5, 1);
     sender = step(step(blank(300, SET(6), SET(5)), 0, 5, 258), 258, 6, 0);
     taker = step(taker, 1, 6, 0);
-    check("a cycle over state 258", fit(sender, taker, 600).number == 0 && room[GUARD] == 1 && room[GUARD + 258 * 2 + 1] == 1 && room[GUARD + 3 * 2 + 1] == 0);
+    check("a cycle over state 258", fit(sender, taker, 600).number == 0 && room[GUARD] == 1);
+    check("and no other", room[GUARD + 258 * 2 + 1] == 1 && room[GUARD + 3 * 2 + 1] == 0);
     check("no flags lent, no pair", moqresam_fit(0, 0, 0, 0, NULL, 0, 0, 0, 0, 0, NULL, 0, NULL, 0).number == 1);
+    check("no flags lent, no pair, by tables", moqresam_fit_tables(&none, &none, NULL, 0).number == 1);
+    check("no flags lent", moqresam_fit_tables(&one, &one, NULL, 0).number == 10);
 }
 
 static void test_count(void)
@@ -404,8 +481,8 @@ static void test_count(void)
 
 static void test_refine(void)
 {
-    struct table ref21 = step(ref(), 2, POWER, 1);
-    struct table one = blank(1, 0, 0);
+    moqresam_table ref21 = step(ref(), 2, POWER, 1);
+    moqresam_table one = blank(1, 0, 0), none = nothing(states(one, 0));
 
     refines("ref refines ref", ref(), ref(), true, "111010011");
     refines("ref with a further step refines ref", ref21, ref(), true, "111010111");
@@ -422,13 +499,15 @@ static void test_refine(void)
     check("4096 by 1", refine(blank(4096, 1, 0), blank(1, 1, 0), 4096).refines && all_are(4096, 1));
     check("1 by 65, the larger room", refine(blank(1, 1, 0), blank(65, 1, 0), 65).refines);
     check("no marks lent, no pair", moqresam_refine(0, 0, 0, 0, NULL, 0, 0, 0, 0, 0, NULL, 0, NULL, 0).number == 1);
+    check("no marks lent, no pair, by tables", moqresam_refine_tables(&none, &none, NULL, 0).number == 1);
+    check("no marks lent", moqresam_refine_tables(&one, &one, NULL, 0).number == 10);
 }
 
 static void test_follow(void)
 {
-    struct table t = step(ref(), 2, 31, 2);
-    struct table large = step(step(blank(4096, SET(7), 0), 4095, 7, 258), 258, 7, 4095);
-    struct table two = step(ref(), 0, SETTLED, 3);
+    moqresam_table t = step(ref(), 2, 31, 2);
+    moqresam_table large = step(step(blank(4096, SET(7), 0), 4095, 7, 258), 258, 7, 4095);
+    moqresam_table two = step(ref(), 0, SETTLED, 3);
 
     moves("a step by an input", ref(), 0, POWER, 1);
     moves("a step by an output", ref(), 1, SETTLED, 2);
@@ -472,19 +551,83 @@ static void test_startup(void)
     static const size_t after[] = {0, 1, 1, 2, 3, 3, 4, 4};
     static const uint32_t number[] = {0, 0, 0, 0, 0, 12, 0, 0};
     static const bool moved[] = {false, true, false, true, true, false, true, false};
-    struct table plan = blank(5, SET(START), SET(POWER) | SET(SETTLED) | SET(READ));
+    moqresam_table plan = blank(5, SET(START), SET(POWER) | SET(SETTLED) | SET(READ));
     moqresam_follower record = {0};
     size_t k;
 
     plan = step(step(step(step(plan, 0, START, 1), 1, POWER, 2), 2, SETTLED, 3), 3, READ, 4);
     for (k = 0; k < sizeof signals / sizeof signals[0]; k++) {
-        moqresam_follow_reply r =
-            moqresam_follow_record(plan.states, plan.initial, plan.inputs, plan.outputs, plan.cells, plan.length, &record, signals[k]);
-        struct refusal wanted = number[k] == 0 ? accepted : nowhere(number[k], 1);
+        moqresam_follow_reply r = moqresam_follow_table_record(&plan, &record, signals[k]);
+        struct followed wanted = {number[k] == 0 ? accepted : nowhere(number[k], 1), moved[k], after[k]};
 
-        check("a startup", record.state == after[k] && r.state == after[k]);
-        check("a startup's replies", SAYS(r, wanted) && r.moved == moved[k]);
+        check("a startup", record.state == after[k]);
+        check("a startup's replies", replies(r, wanted));
     }
+}
+
+/* ---- what the header brings beside the calls */
+
+/* Whether each byte is 255. */
+static bool is_blank(const uint8_t *bytes, size_t length)
+{
+    size_t k;
+
+    for (k = 0; k < length; k++)
+        if (bytes[k] != 255)
+            return false;
+    return true;
+}
+
+static void test_tables(void)
+{
+    uint8_t *cells = lend();
+    moqresam_table t = moqresam_blank_table(cells, 3, 5, 10), large = blank(4096, 1, 0);
+
+    check("a blank table", t.states == 3 && t.initial == 0 && t.inputs == 5 && t.outputs == 10 && t.cells == cells && t.cells_length == 192);
+    check("a blank table's cells", is_blank(cells, 192));
+    check("nothing beside a blank table", cells[-1] == 0xa5 && cells[192] == 0xa5);
+    check("no step", moqresam_read_cell(t.cells, 2, 31) == MOQRESAM_NO_STEP);
+    check("a blank table without states", moqresam_blank_table(lend(), 0, 0, 0).cells_length == 0 && holds(""));
+    moqresam_write_cell(cells, 1, 2, 0x0102);
+    check("a cell's two bytes, low byte first", cells[68] == 2 && cells[69] == 1);
+    check("nothing beside a cell", cells[67] == 0xa5 && cells[70] == 0xa5);
+    check("a cell read", moqresam_read_cell(cells, 1, 2) == 0x0102);
+    moqresam_write_cell(cells, 1, 2, MOQRESAM_NO_STEP);
+    check("a step taken away", moqresam_read_cell(cells, 1, 2) == MOQRESAM_NO_STEP);
+    check("the last cell", moqresam_read_cell(step(large, 4095, 31, 4095).cells, 4095, 31) == 4095);
+    check("the last cell's bytes", large.cells[large.cells_length - 2] == 0xff && large.cells[large.cells_length - 1] == 0x0f);
+    check("pairs", moqresam_pairs(&t, &large) == 12288 && moqresam_pairs(&large, &t) == 12288);
+}
+
+/* Whether a call or a program gives the number: 25 to 27 are document 02's, for a request that has not landed. */
+static bool is_given(uint32_t number)
+{
+    return number <= 24 || number == 28;
+}
+
+/* Whether no smaller number has the same words. */
+static bool has_own_words(uint32_t number)
+{
+    uint32_t other;
+
+    for (other = 0; other < number; other++)
+        if (strcmp(moqresam_refusal_text(number), moqresam_refusal_text(other)) == 0)
+            return false;
+    return strlen(moqresam_refusal_text(number)) > 0;
+}
+
+static bool is_unknown(uint32_t number)
+{
+    return strcmp(moqresam_refusal_text(number), "unknown refusal number") == 0;
+}
+
+static void test_refusal_texts(void)
+{
+    uint32_t number;
+
+    for (number = 0; number < 100; number++)
+        check("a refusal's words", is_given(number) ? has_own_words(number) && !is_unknown(number) : is_unknown(number));
+    check("the largest number", is_unknown(UINT32_MAX));
 }
 
 int main(void)
@@ -498,6 +641,8 @@ int main(void)
     test_refine();
     test_follow();
     test_startup();
+    test_tables();
+    test_refusal_texts();
     while (made_count > 0)
         free(made[--made_count]);
     printf("%d passed, %d failed\n", passed, failed);

@@ -1,6 +1,7 @@
 //! Compares what the archive finds reached in a table, and its count of ends, with the reference, and tries what holds of every answer. The tables have
 //! any cells, or are made by the archive of a module and a plan.
 
+use crate::cases::Cases;
 use crate::compare_tables::wrong_length;
 use crate::demand3::random_pair;
 use crate::lent::Lent;
@@ -47,31 +48,29 @@ impl Case {
     }
 }
 
-pub fn run(seed: u64, count: u64, only: Option<u64>) -> bool {
-    let mut tally = Tally::default();
-    for number in only.map_or(0..count, |case| case..case + 1) {
-        let r = &mut Random::of_case(seed, number);
-        let case = random_case(r);
-        ways::record_ends(&mut tally, case.origin, &case.table, &case.flags);
-        ways::record_marks(&mut tally, case.origin, &case.table, case.marks.len(), &case.sets);
-        compare(&mut tally, r, &format!("ends, seed {seed}, case {number}"), &case);
+pub fn run(cases: &Cases, tally: &mut Tally) {
+    cases.run(tally, |r, tally| {
+        let kind = r.kind_of_first_cases(2 * LONGEST_STATES.len());
+        let case = if kind == 0 { random_case(r) } else { longest_case(r, kind - 1) };
+        // To say what can be said of the longest would take the reference seconds.
+        if kind == 0 {
+            ways::record_ends(tally, case.origin, &case.table, &case.flags);
+            ways::record_marks(tally, case.origin, &case.table, case.marks.len(), &case.sets);
+        }
+        compare(tally, r, &case);
+    });
+    if cases.are_at_least(20_000) {
+        ways::ask(tally);
     }
-    if only.is_none() {
-        compare_longest(&mut tally, seed, count);
-    }
-    if only.is_none() && count >= 20_000 {
-        ways::ask(&mut tally);
-    }
-    tally.finish()
 }
 
-fn compare(tally: &mut Tally, r: &mut Random, what: &str, case: &Case) {
+fn compare(tally: &mut Tally, r: &mut Random, case: &Case) {
     let (expected, counted) = (calls::count_ends(&case.table, &case.flags), case.count_by_archive());
-    tally.check(expected == counted, || format!("{what}: expected {expected} ends, are {counted}\n  {case:?}"));
+    tally.check(expected == counted, || format!("expected {expected} ends, are {counted}\n  {case:?}"));
     let (expected, marked) = (case.marks_by(calls::mark_reached), case.marks_by(archive::mark_reached));
-    tally.check(expected == marked, || format!("{what}: marks {}\n  {case:?}", expected.difference(&marked).unwrap_or_default()));
+    tally.check(expected == marked, || format!("marks {}\n  {case:?}", expected.difference(&marked).unwrap_or_default()));
     let broken = broken_property(r, case);
-    tally.check(broken.is_none(), || format!("{what}: {}\n  {case:?}", broken.unwrap_or_default()));
+    tally.check(broken.is_none(), || format!("{}\n  {case:?}", broken.unwrap_or_default()));
 }
 
 /// Tries what holds of every answer, without the reference: under yes all that is reached is kept, so flags of 1 alone give the same count; under
@@ -154,22 +153,22 @@ fn any_table(r: &mut Random) -> (&'static str, Table, Vec<u8>) {
 /// Draws mostly few states; at times about 64, or about the most that there may be.
 fn some_states(r: &mut Random) -> usize {
     match r.below(1_000) {
-        0..=1 => r.between(MOST_STATES - 1, MOST_STATES + 1),
-        2..=5 => r.between(100, 400),
-        6..=59 => r.between(60, 70),
-        _ => r.between(1, 12),
+        0..=939 => r.between(1, 12),
+        940..=993 => r.between(60, 70),
+        994..=997 => r.between(100, 400),
+        _ => r.between(MOST_STATES - 1, MOST_STATES + 1),
     }
 }
 
 /// Draws mostly a state, often the next one, at times the same one; else a number that is just too large, or anything.
 fn any_cell(r: &mut Random, state: usize, states: usize) -> u16 {
     let cell = match r.below(20) {
-        0 => states,
-        1 => r.pick(&[states + 1, 65_534, 65_535]),
-        2 => r.below(65_536),
-        3 => state,
-        4..=9 => (state + 1) % states,
-        _ => r.below(states),
+        0..=9 => r.below(states),
+        10..=15 => (state + 1) % states,
+        16 => state,
+        17 => states,
+        18 => r.pick(&[states + 1, 65_534, 65_535]),
+        _ => r.below(65_536),
     };
     cell as u16
 }
@@ -177,10 +176,10 @@ fn any_cell(r: &mut Random, state: usize, states: usize) -> u16 {
 /// Draws mostly 1; at times 0, what differs from 1 in a single bit, or anything.
 fn any_flag(r: &mut Random) -> u8 {
     match r.below(8) {
-        0 => 0,
-        1 => 1 ^ 1 << r.below(8),
-        2 => r.below(256) as u8,
-        _ => 1,
+        0..=4 => 1,
+        5 => 0,
+        6 => 1 ^ 1 << r.below(8),
+        _ => r.below(256) as u8,
     }
 }
 
@@ -209,20 +208,26 @@ fn damage(r: &mut Random, case: &mut Case) {
     }
 }
 
-/// Tries the most that a search can have before it: a way through all states, in any order; and a step in every cell.
-fn compare_longest(tally: &mut Tally, seed: u64, number: u64) {
-    let r = &mut Random::of_case(seed, number);
-    for states in [64, 65, MOST_STATES] {
-        let mut order: Vec<usize> = (0..states).collect();
-        r.shuffle(&mut order);
-        let mut way = Table::blank(states, order[0], 0, 0);
-        for two in order.windows(2) {
-            way.set_step(two[0], r.below(SIGNALS), two[1]);
-        }
-        let full = Table { cells: (0..states * SIGNALS).map(|_| r.below(states) as u16).collect(), ..way.clone() };
-        for table in [way, full] {
-            let case = Case { origin: ANY, table, flags: vec![1; states], marks: Lent::arbitrary(r, states), sets: vec![u32::MAX; states] };
-            compare(tally, r, &format!("ends, seed {seed}, the longest of {states}"), &case);
-        }
+const LONGEST_STATES: [usize; 3] = [64, 65, MOST_STATES];
+
+/// Takes the most that a search can have before it, twice for each number of states: a way through all states, in any order; and a step in every cell.
+fn longest_case(r: &mut Random, number: usize) -> Case {
+    let states = 1 + r.given(LONGEST_STATES[number / 2] - 1, MOST_STATES - 1);
+    let table = if number % 2 == 0 { longest_way(r, states) } else { full_table(r, states) };
+    Case { origin: ANY, table, flags: vec![1; states], marks: Lent::arbitrary(r, states), sets: vec![u32::MAX; states] }
+}
+
+fn longest_way(r: &mut Random, states: usize) -> Table {
+    let mut order: Vec<usize> = (0..states).collect();
+    r.shuffle(&mut order);
+    let mut way = Table::blank(states, order[0], 0, 0);
+    for two in order.windows(2) {
+        way.set_step(two[0], r.below(SIGNALS), two[1]);
     }
+    way
+}
+
+fn full_table(r: &mut Random, states: usize) -> Table {
+    let cells = (0..states * SIGNALS).map(|_| r.below(states) as u16).collect();
+    Table { cells, ..Table::blank(states, r.below(states), 0, 0) }
 }

@@ -1,11 +1,14 @@
 //! The calls on tables: the archives against the reference, reply for reply and byte for byte.
 
 use crate::bytes::{from_bytes, to_bytes};
+use crate::cases::Cases;
 use crate::lent::Lent;
 use crate::random::Random;
-use crate::random_tables::{chain, chain_allowed, damage, meeting_tables, module_and_plan, refining_tables, sizes};
+use crate::random_tables::{
+    chain, chain_allowed, damage, meeting_tables, module_and_plan, refining_tables, sizes, sizes_about_the_smaller_room,
+};
 use crate::reply::Reply;
-use crate::table::{members, Fault, Table, NO_STEP, SIGNALS};
+use crate::table::{members, Fault, Table, MOST_STATES, NO_STEP, SIGNALS};
 use crate::tally::Tally;
 use crate::{archive, calls, places};
 
@@ -31,7 +34,7 @@ use Call::*;
 /// The calls, with the ones that have more to go wrong drawn more often.
 const DRAWN: &[Call] = &[
     Judge, Mirror, Follow, Product, Fit, Fit, Compose, Compose, Refine, Refine, Synthesize, Synthesize, Synthesize,
-    CountKept, CountSteps, CFit, CRefine, CFollow, CFollowRecord,
+    CountKept, CountSteps, CFit, CFit, CRefine, CRefine, CFollow, CFollow, CFollowRecord, CFollowRecord,
 ];
 
 /// The arguments of a call: all of them are there, whichever the call takes, and all are compared afterwards.
@@ -79,37 +82,37 @@ impl Case {
     }
 }
 
-/// Runs the cases, or one of them alone, and then asks that everything that can occur did.
-pub fn run(seed: u64, count: u64, only: Option<u64>) -> bool {
-    let mut tally = Tally::default();
-    for number in only.map_or(0..count, |case| case..case + 1) {
-        compare(&mut tally, seed, number, random_case(&mut Random::of_case(seed, number)));
-    }
-    if only.is_none() {
-        compare_chains(&mut tally, seed, count);
-    }
-    if only.is_none() && count >= 20_000 {
-        ask_for_all_outcomes(&mut tally);
+/// Runs the cases, and then asks that everything that can occur did.
+pub fn run(cases: &Cases, tally: &mut Tally) {
+    cases.run(tally, |r, tally| {
+        let case = match r.kind_of_first_cases(CHAIN_CALLS.len() * CHAIN_LENGTHS.len()) {
+            0 => random_case(r),
+            kind => chain_case(r, kind - 1),
+        };
+        compare(tally, case);
+    });
+    if cases.are_at_least(20_000) {
+        ask_for_all_outcomes(tally);
     }
     // The rarest place comes about once in 6,000 cases.
-    if only.is_none() && count >= 50_000 {
-        ask_for_all_places(&mut tally);
+    if cases.are_at_least(50_000) {
+        ask_for_all_places(tally);
+        ask_for_all_sizes(tally);
     }
-    tally.finish()
 }
 
-fn compare(tally: &mut Tally, seed: u64, number: u64, case: Case) {
+fn compare(tally: &mut Tally, case: Case) {
     let (mut expected, mut actual) = (case.clone(), case.clone());
     let reply = by_reference(&mut expected);
     let answer = by_archive(&mut actual);
     record(tally, &expected, &reply);
     if reply.bad_cell().is_some() {
-        mend_bad_cells(tally, seed, number, case.clone());
+        mend_bad_cells(tally, case.clone());
     }
     tally.check(reply == answer && expected == actual, || {
         let buffers = [expected.cells.difference(&actual.cells), expected.flags.difference(&actual.flags)];
         format!(
-            "tables, seed {seed}, case {number}: {case:?}\n  expected {reply:?}, state {}\n  is       {answer:?}, state {}\n  cells and flags: {buffers:?}",
+            "{case:?}\n  expected {reply:?}, state {}\n  is       {answer:?}, state {}\n  cells and flags: {buffers:?}",
             expected.state, actual.state
         )
     });
@@ -117,7 +120,7 @@ fn compare(tally: &mut Tally, seed: u64, number: u64, case: Case) {
 
 /// Mends each bad cell that the archive names and calls again, until it names none. The reference is not asked: the first table's cells have to be
 /// named before the second's, and those of one table in the order of faults. So all bad cells are named, each in its turn and by its own number.
-fn mend_bad_cells(tally: &mut Tally, seed: u64, number: u64, mut case: Case) {
+fn mend_bad_cells(tally: &mut Tally, mut case: Case) {
     let mut named = Vec::new();
     let mut answer = by_archive(&mut case);
     while let Some(cell) = answer.bad_cell() {
@@ -130,7 +133,7 @@ fn mend_bad_cells(tally: &mut Tally, seed: u64, number: u64, mut case: Case) {
         answer = by_archive(&mut case);
     }
     tally.saw(mended(named.len()));
-    tally.check(answer.bad_cell().is_none(), || format!("tables, seed {seed}, case {number}: bad cells named out of turn: {named:?}\n  {case:?}"));
+    tally.check(answer.bad_cell().is_none(), || format!("bad cells named out of turn: {named:?}\n  {case:?}"));
 }
 
 fn by_reference(case: &mut Case) -> Reply {
@@ -183,7 +186,7 @@ fn counted(value: usize) -> Reply {
 
 fn random_case(r: &mut Random) -> Case {
     let call = r.pick(DRAWN);
-    let sizes = sizes(r);
+    let sizes = if takes_bytes(call) && r.percent(5) { sizes_about_the_smaller_room(r) } else { sizes(r) };
     let (mut a, mut b) = match call {
         Synthesize => module_and_plan(r, sizes),
         Refine | CRefine => refining_tables(r, sizes),
@@ -255,10 +258,10 @@ fn random_state(r: &mut Random, table: &Table) -> usize {
 fn random_signal(r: &mut Random, table: &Table) -> usize {
     let declared: Vec<usize> = members(table.signals()).collect();
     match r.below(20) {
-        0 => r.pick(&[32, 33, 63, 64, 256, 1 << 32, (1 << 32) + 1, usize::MAX]),
-        1 => r.below(SIGNALS),
-        _ if declared.is_empty() => 31,
-        _ => r.pick(&declared),
+        0..=17 if declared.is_empty() => 31,
+        0..=17 => r.pick(&declared),
+        18 => r.below(SIGNALS),
+        _ => r.pick(&[32, 33, 63, 64, 256, 1 << 32, (1 << 32) + 1, usize::MAX]),
     }
 }
 
@@ -274,25 +277,25 @@ fn damage_own_cell(r: &mut Random, table: &mut Table, state: usize, signal: usiz
 /// The cells as bytes; of a damaged case, at times not the right number of them.
 fn random_bytes(r: &mut Random, table: &Table, faults: usize) -> Vec<u8> {
     let mut bytes = to_bytes(&table.cells);
-    if faults > 0 && r.percent(10) {
+    if faults > 0 && r.percent(15) {
         let length = bytes.len();
         bytes.resize(r.pick(&[0, length / 2, length.saturating_sub(1), length + 1, length + 2, length + 64]), 255);
     }
     bytes
 }
 
-/// The longest fixpoints there are: as many rounds as pairs.
-fn compare_chains(tally: &mut Tally, seed: u64, number: u64) {
-    let r = &mut Random::of_case(seed, number);
-    for length in [2, 17, 1_024, 4_096] {
-        for call in [Fit, Compose, CFit, Refine, CRefine] {
-            let (a, taker) = chain(length);
-            let b = if matches!(call, Refine | CRefine) { chain_allowed() } else { taker };
-            let (cells, flags) = (Lent::arbitrary(r, length * SIGNALS), Lent::arbitrary(r, length));
-            let (a_bytes, b_bytes) = (to_bytes(&a.cells), to_bytes(&b.cells));
-            compare(tally, seed, number, Case { call, a, b, a_bytes, b_bytes, state: 0, signal: 0, cells, flags });
-        }
-    }
+const CHAIN_CALLS: [Call; 5] = [Fit, Compose, CFit, Refine, CRefine];
+const CHAIN_LENGTHS: [usize; 4] = [2, 17, 1_024, 4_096];
+
+/// Takes the longest fixpoints there are: as many rounds as pairs. The numbers are those of each length with each call.
+fn chain_case(r: &mut Random, number: usize) -> Case {
+    let call = CHAIN_CALLS[number % CHAIN_CALLS.len()];
+    let length = 1 + r.given(CHAIN_LENGTHS[number / CHAIN_CALLS.len()] - 1, MOST_STATES - 1);
+    let (a, taker) = chain(length);
+    let b = if matches!(call, Refine | CRefine) { chain_allowed() } else { taker };
+    let (cells, flags) = (Lent::arbitrary(r, length * SIGNALS), Lent::arbitrary(r, length));
+    let (a_bytes, b_bytes) = (to_bytes(&a.cells), to_bytes(&b.cells));
+    Case { call, a, b, a_bytes, b_bytes, state: 0, signal: 0, cells, flags }
 }
 
 fn record(tally: &mut Tally, done: &Case, reply: &Reply) {
@@ -305,6 +308,35 @@ fn record(tally: &mut Tally, done: &Case, reply: &Reply) {
     if reply.number == 0 && reply.value > 0 && matches!(call, Fit | Compose | Synthesize | CFit) {
         tally.saw(&dropping(call, reply.yes));
     }
+    if let Some(sizes) = telling_sizes(done, reply).filter(|_| takes_bytes(call)) {
+        tally.saw(&with_sizes(call, sizes));
+    }
+}
+
+const ABOVE_THE_SMALLER_ROOM: &str = "accepted, with 65 to 80 states";
+const A_BYTE_SHORT: &str = "a byte too few";
+const A_BYTE_OVER: &str = "a byte too many";
+const A_FLAG_SHORT: &str = "a flag too few";
+const A_FLAG_OVER: &str = "a flag too many";
+
+/// Sizes that tell the right calls for C from wrong ones: tables that need the larger room, and lengths that are off by one.
+fn telling_sizes(Case { a, b, a_bytes, b_bytes, flags, .. }: &Case, reply: &Reply) -> Option<&'static str> {
+    let (table, bytes) = if reply.table == 2 { (b, b_bytes) } else { (a, a_bytes) };
+    let off_by_one = |length: usize, right: usize, short, over| match length.wrapping_sub(right) {
+        1 => Some(over),
+        usize::MAX => Some(short),
+        _ => None,
+    };
+    match reply.number {
+        0 if (65..=80).contains(&a.states.max(b.states)) => Some(ABOVE_THE_SMALLER_ROOM),
+        4 => off_by_one(bytes.len(), 2 * SIGNALS * table.states, A_BYTE_SHORT, A_BYTE_OVER),
+        10 => off_by_one(flags.len(), a.states * b.states, A_FLAG_SHORT, A_FLAG_OVER),
+        _ => None,
+    }
+}
+
+fn with_sizes(call: Call, sizes: &str) -> String {
+    format!("{call:?}: {sizes}")
 }
 
 fn outcome(call: Call, number: u32, table: u32, yes: bool) -> String {
@@ -352,6 +384,18 @@ fn ask_for_all_places(tally: &mut Tally) {
     for call in DRAWN.iter().copied() {
         for (number, table) in refusals(call) {
             places::ask(tally, &outcome(call, number, table, false), number, is_follower(call));
+        }
+    }
+}
+
+fn ask_for_all_sizes(tally: &mut Tally) {
+    for call in [CFit, CRefine, CFollow, CFollowRecord] {
+        tally.must_have_seen(&with_sizes(call, A_BYTE_SHORT));
+        tally.must_have_seen(&with_sizes(call, A_BYTE_OVER));
+    }
+    for call in [CFit, CRefine] {
+        for sizes in [ABOVE_THE_SMALLER_ROOM, A_FLAG_SHORT, A_FLAG_OVER] {
+            tally.must_have_seen(&with_sizes(call, sizes));
         }
     }
 }

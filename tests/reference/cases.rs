@@ -1,0 +1,86 @@
+//! The one driver of all random comparisons: it runs case after case, or one of them alone, names those that fail, and shows the smallest cases that it
+//! finds from them.
+
+use crate::random::Random;
+use crate::smaller::{smallest, Failing};
+use crate::tally::Tally;
+use std::cell::RefCell;
+use std::panic::{catch_unwind, set_hook, take_hook, AssertUnwindSafe};
+
+/// How many failing cases of a run are named and made smaller, and of how many checks that fail a case is shown.
+const MOST_NAMED: usize = 8;
+const MOST_SHOWN: usize = 3;
+
+/// How many cases a comparison takes, and by which seed. `only` asks for one case alone.
+pub struct Cases<'a> {
+    pub what: &'a str,
+    pub seed: u64,
+    pub count: u64,
+    pub only: Option<u64>,
+}
+
+impl Cases<'_> {
+    /// Runs the cases. A case draws everything from its `Random`, so that seed and number repeat it.
+    pub fn run(&self, tally: &mut Tally, mut case: impl FnMut(&mut Random, &mut Tally)) {
+        let hook = take_hook();
+        set_hook(Box::new(|panic| PANIC.set(panic.to_string())));
+        let mut failed = Vec::new();
+        for number in self.only.map_or(0..self.count, |number| number..number + 1) {
+            let failing = failing(Random::of_case(self.seed, number), tally, &mut case);
+            if let Some(failing) = failing.filter(|_| failed.len() < MOST_NAMED) {
+                self.name(number, &failing);
+                failed.push((number, failing));
+            }
+        }
+        show_smallest(failed, &mut case);
+        set_hook(hook);
+    }
+
+    /// Tells whether all cases run, and at least so many: only then can a comparison ask that rare outcomes occurred.
+    pub fn are_at_least(&self, count: u64) -> bool {
+        self.only.is_none() && self.count >= count
+    }
+
+    /// Says how to run a failed case again; one that runs alone is shown as it is.
+    fn name(&self, number: u64, failing: &Failing) {
+        let Cases { what, seed, .. } = self;
+        println!("failed: {what}, seed {seed}, case {number}; run again: tests/reference.sh {what} {seed} {number}");
+        if self.only.is_some() {
+            println!("  {}", failing.failure.words);
+        }
+    }
+}
+
+/// Makes the failed cases smaller, and shows one for each check that fails: the one of fewest words.
+fn show_smallest(failed: Vec<(u64, Failing)>, case: &mut impl FnMut(&mut Random, &mut Tally)) {
+    let mut shown = Vec::new();
+    for (number, failing) in failed {
+        let smaller = smallest(failing, |draws| self::failing(Random::of_draws(draws), &mut Tally::default(), case));
+        shown.push((smaller.failure.words.len(), number, smaller.failure));
+    }
+    shown.sort_by_key(|&(length, number, _)| (length, number));
+    let mut places = Vec::new();
+    shown.retain(|(_, _, failure)| {
+        let is_new = !places.contains(&failure.place);
+        places.push(failure.place);
+        is_new
+    });
+    for (_, number, failure) in shown.iter().take(MOST_SHOWN) {
+        println!("case {number} made smaller: {}", failure.words);
+    }
+}
+
+thread_local! {
+    /// Holds what was said of the last panic.
+    static PANIC: RefCell<String> = const { RefCell::new(String::new()) };
+}
+
+/// Runs a case; returns it if a check failed or it panicked.
+fn failing(mut r: Random, tally: &mut Tally, case: &mut impl FnMut(&mut Random, &mut Tally)) -> Option<Failing> {
+    tally.begin_case();
+    if catch_unwind(AssertUnwindSafe(|| case(&mut r, tally))).is_err() {
+        tally.check(false, || PANIC.take());
+    }
+    let failure = tally.end_case()?;
+    Some(Failing { draws: r.into_draws(), failure })
+}
