@@ -43,6 +43,7 @@ mod refine;
 mod reply;
 mod run_program;
 mod selftest;
+mod situations;
 mod spellings;
 mod substitution;
 mod synth;

@@ -2,7 +2,7 @@
 
 use crate::compare_texts::shown;
 use crate::tally::Tally;
-use crate::{lister, program};
+use crate::{lister, program, situations};
 use std::fs;
 use std::path::{Path, PathBuf};
 
@@ -16,6 +16,7 @@ pub fn run(cases: &Path, clashes: &Path) -> bool {
         compare(&mut tally, &folder, "stdout", lister::print);
         compare(&mut tally, &folder, "main", program::print);
     }
+    situations::compare(&mut tally);
     tally.finish()
 }
 
