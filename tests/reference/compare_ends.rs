@@ -1,6 +1,7 @@
 //! Compares what the archive finds reached in a table, and its count of ends, with the reference, and tries what holds of every answer. The tables have
 //! any cells, or are made by the archive of a module and a plan.
 
+use crate::cases::Cases;
 use crate::compare_tables::wrong_length;
 use crate::demand3::random_pair;
 use crate::lent::Lent;
@@ -47,31 +48,25 @@ impl Case {
     }
 }
 
-pub fn run(seed: u64, count: u64, only: Option<u64>) -> bool {
-    let mut tally = Tally::default();
-    for number in only.map_or(0..count, |case| case..case + 1) {
-        let r = &mut Random::of_case(seed, number);
-        let case = random_case(r);
-        ways::record_ends(&mut tally, case.origin, &case.table, &case.flags);
-        ways::record_marks(&mut tally, case.origin, &case.table, case.marks.len(), &case.sets);
-        compare(&mut tally, r, &format!("ends, seed {seed}, case {number}"), &case);
+pub fn run(cases: &Cases, tally: &mut Tally) {
+    cases.run(tally, |r, tally| {
+        let case = if r.case() < LONGEST { longest_case(r) } else { random_case(r) };
+        compare(tally, r, &case);
+    });
+    if cases.are_at_least(20_000) {
+        ways::ask(tally);
     }
-    if only.is_none() {
-        compare_longest(&mut tally, seed, count);
-    }
-    if only.is_none() && count >= 20_000 {
-        ways::ask(&mut tally);
-    }
-    tally.finish()
 }
 
-fn compare(tally: &mut Tally, r: &mut Random, what: &str, case: &Case) {
+fn compare(tally: &mut Tally, r: &mut Random, case: &Case) {
+    ways::record_ends(tally, case.origin, &case.table, &case.flags);
+    ways::record_marks(tally, case.origin, &case.table, case.marks.len(), &case.sets);
     let (expected, counted) = (calls::count_ends(&case.table, &case.flags), case.count_by_archive());
-    tally.check(expected == counted, || format!("{what}: expected {expected} ends, are {counted}\n  {case:?}"));
+    tally.check(expected == counted, || format!("expected {expected} ends, are {counted}\n  {case:?}"));
     let (expected, marked) = (case.marks_by(calls::mark_reached), case.marks_by(archive::mark_reached));
-    tally.check(expected == marked, || format!("{what}: marks {}\n  {case:?}", expected.difference(&marked).unwrap_or_default()));
+    tally.check(expected == marked, || format!("marks {}\n  {case:?}", expected.difference(&marked).unwrap_or_default()));
     let broken = broken_property(r, case);
-    tally.check(broken.is_none(), || format!("{what}: {}\n  {case:?}", broken.unwrap_or_default()));
+    tally.check(broken.is_none(), || format!("{}\n  {case:?}", broken.unwrap_or_default()));
 }
 
 /// Tries what holds of every answer, without the reference: under yes all that is reached is kept, so flags of 1 alone give the same count; under
@@ -209,20 +204,30 @@ fn damage(r: &mut Random, case: &mut Case) {
     }
 }
 
-/// Tries the most that a search can have before it: a way through all states, in any order; and a step in every cell.
-fn compare_longest(tally: &mut Tally, seed: u64, number: u64) {
-    let r = &mut Random::of_case(seed, number);
-    for states in [64, 65, MOST_STATES] {
-        let mut order: Vec<usize> = (0..states).collect();
-        r.shuffle(&mut order);
-        let mut way = Table::blank(states, order[0], 0, 0);
-        for two in order.windows(2) {
-            way.set_step(two[0], r.below(SIGNALS), two[1]);
-        }
-        let full = Table { cells: (0..states * SIGNALS).map(|_| r.below(states) as u16).collect(), ..way.clone() };
-        for table in [way, full] {
-            let case = Case { origin: ANY, table, flags: vec![1; states], marks: Lent::arbitrary(r, states), sets: vec![u32::MAX; states] };
-            compare(tally, r, &format!("ends, seed {seed}, the longest of {states}"), &case);
-        }
+const LONGEST_STATES: [usize; 3] = [64, 65, MOST_STATES];
+
+/// How many of the first cases are the longest: a way and a full table for each number of states.
+const LONGEST: u64 = 2 * LONGEST_STATES.len() as u64;
+
+/// Takes the most that a search can have before it: a way through all states, in any order; or a step in every cell.
+fn longest_case(r: &mut Random) -> Case {
+    let number = r.case() as usize;
+    let states = LONGEST_STATES[number / 2];
+    let table = if number % 2 == 0 { longest_way(r, states) } else { full_table(r, states) };
+    Case { origin: ANY, table, flags: vec![1; states], marks: Lent::arbitrary(r, states), sets: vec![u32::MAX; states] }
+}
+
+fn longest_way(r: &mut Random, states: usize) -> Table {
+    let mut order: Vec<usize> = (0..states).collect();
+    r.shuffle(&mut order);
+    let mut way = Table::blank(states, order[0], 0, 0);
+    for two in order.windows(2) {
+        way.set_step(two[0], r.below(SIGNALS), two[1]);
     }
+    way
+}
+
+fn full_table(r: &mut Random, states: usize) -> Table {
+    let cells = (0..states * SIGNALS).map(|_| r.below(states) as u16).collect();
+    Table { cells, ..Table::blank(states, r.below(states), 0, 0) }
 }

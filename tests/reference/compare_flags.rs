@@ -2,6 +2,7 @@
 //! of 1, which no count may take. Words are taken four at a time, then one by one, and what is left singly: each of the three has to meet every byte at
 //! every place that it has.
 
+use crate::cases::Cases;
 use crate::random::Random;
 use crate::table::MOST_PAIRS;
 use crate::tally::Tally;
@@ -30,29 +31,24 @@ struct Case {
     start: usize,
 }
 
-pub fn run(seed: u64, count: u64, only: Option<u64>) -> bool {
-    let mut tally = Tally::default();
+pub fn run(cases: &Cases, tally: &mut Tally) {
     let mut met = Met::default();
-    for number in only.map_or(0..count, |case| case..case + 1) {
-        let r = &mut Random::of_case(seed, number);
+    cases.run(tally, |r, tally| {
         let case = random_case(r);
         tally.saw(kind(&case));
         met.add(&case.flags);
         let fault = wrong_count(&case).or_else(|| broken_property(r, &case));
-        tally.check(fault.is_none(), || {
-            format!("flags, seed {seed}, case {number}: {}, start {}\n  {:?}", fault.unwrap_or_default(), case.start, case.flags)
-        });
-    }
-    if only.is_none() {
+        tally.check(fault.is_none(), || format!("{}, start {}\n  {:?}", fault.unwrap_or_default(), case.start, case.flags));
+    });
+    if cases.are_at_least(1) {
         for kind in [EMPTY, SINGLY, WHOLE, REST] {
-            tally.must_have_seen_at_least(kind, count / 50);
+            tally.must_have_seen_at_least(kind, cases.count / 50);
         }
     }
     // The rarest, a byte at the last place of a rest, comes about once in 8,000 cases.
-    if only.is_none() && count >= 100_000 {
-        met.ask_for_all(&mut tally);
+    if cases.are_at_least(100_000) {
+        met.ask_for_all(tally);
     }
-    tally.finish()
 }
 
 /// Which bytes have stood at which places: of four words, of a word, of what is left.

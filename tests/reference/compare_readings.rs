@@ -99,17 +99,17 @@ impl Given {
     }
 }
 
-pub fn compare_alone(tally: &mut Tally, r: &mut Random, what: &str) {
+pub fn compare_alone(tally: &mut Tally, r: &mut Random) {
     let (module, plan) = text_pair(r);
     let module = if r.percent(50) { module } else { plan };
     let cells = Cells { module: lent_cells(r, &module), plan: Lent::arbitrary(r, SIGNALS) };
-    compare(tally, r, what, &Given { is_alone: true, module, plan: BARE_PLAN.to_vec(), cells });
+    compare(tally, r, &Given { is_alone: true, module, plan: BARE_PLAN.to_vec(), cells });
 }
 
-pub fn compare_together(tally: &mut Tally, r: &mut Random, what: &str) {
+pub fn compare_together(tally: &mut Tally, r: &mut Random) {
     let (module, plan) = text_pair(r);
     let cells = Cells { module: lent_cells(r, &module), plan: lent_cells(r, &plan) };
-    compare(tally, r, what, &Given { is_alone: false, module, plan, cells });
+    compare(tally, r, &Given { is_alone: false, module, plan, cells });
 }
 
 /// Cells to lend: mostly as many as the text's first line seems to ask for, else fewer or more.
@@ -122,7 +122,7 @@ fn lent_cells(r: &mut Random, text: &[u8]) -> Lent<u16> {
     Lent::arbitrary(r, room)
 }
 
-fn compare(tally: &mut Tally, r: &mut Random, what: &str, given: &Given) {
+fn compare(tally: &mut Tally, r: &mut Random, given: &Given) {
     let call = if given.is_alone { "alone" } else { "together" };
     let expected = [Rule::Folded, Rule::Exact].map(|rule| given.read_by_reference(rule));
     let actual = [Rule::Folded, Rule::Exact].map(|rule| given.read_by_library(rule));
@@ -130,16 +130,16 @@ fn compare(tally: &mut Tally, r: &mut Random, what: &str, given: &Given) {
         tally.saw(&outcome(name, &expected.reply));
         tally.check(expected == actual, || {
             let (given, cells) = (given.shown(), expected.cells.difference(&actual.cells));
-            format!("{what}: read {name}, {given}\n  expected {:?}\n  is       {:?}\n  cells {cells:?}", expected.reply, actual.reply)
+            format!("read {name}, {given}\n  expected {:?}\n  is       {:?}\n  cells {cells:?}", expected.reply, actual.reply)
         });
     }
     let [folded, exact] = &expected;
     spellings::record_reading(tally, call, &given.module, given.plan(), &folded.reply, &exact.reply);
-    if let Some(listing) = compare_listing(tally, r, what, given, &folded.reply) {
+    if let Some(listing) = compare_listing(tally, r, given, &folded.reply) {
         let [folded, exact] = &actual;
         tally.check(given.agree(folded, exact, &listing), || {
             let (given, folded, exact, listing) = (given.shown(), folded.reply, exact.reply, shown(&listing));
-            format!("{what}: {call}, the two rules and the listing, {given}\n  {folded:?}\n  archive {exact:?}\n  {listing}")
+            format!("{call}, the two rules and the listing, {given}\n  {folded:?}\n  archive {exact:?}\n  {listing}")
         });
     }
 }
@@ -150,7 +150,7 @@ pub fn archived(call: &str) -> String {
 }
 
 /// The library's listing of the two texts, as a whole; nothing where it was lent too few bytes for it.
-fn compare_listing(tally: &mut Tally, r: &mut Random, what: &str, given: &Given, folded: &Reply) -> Option<Vec<u8>> {
+fn compare_listing(tally: &mut Tally, r: &mut Random, given: &Given, folded: &Reply) -> Option<Vec<u8>> {
     let (mut expected, mut actual) = (given.cells.clone(), given.cells.clone());
     let text = lister::list(&given.module, &given.plan, expected.module.part(), expected.plan.part());
     let room = if r.percent(20) { r.below(text.len() + 1) } else { text.len() + r.pick(&[0, 1, 500]) };
@@ -164,7 +164,7 @@ fn compare_listing(tally: &mut Tally, r: &mut Random, what: &str, given: &Given,
     spellings::record_listing(tally, &given.module, &given.plan, &text, folded);
     tally.check(length == end && out == expected_out && actual == expected, || {
         let (given, text, cells, bytes) = (given.shown(), shown(&text), expected.difference(&actual), expected_out.difference(&out));
-        format!("{what}: list, {room} bytes lent, {given}\n  expected {end}: {text}\n  is       {length}\n  bytes {bytes:?}\n  cells {cells:?}")
+        format!("list, {room} bytes lent, {given}\n  expected {end}: {text}\n  is       {length}\n  bytes {bytes:?}\n  cells {cells:?}")
     });
     (length <= room).then(|| out.part()[..length].to_vec())
 }
@@ -177,7 +177,7 @@ fn put(out: &mut [u8], text: &[u8]) -> usize {
 }
 
 /// Looks up every signal number, and some that are far too large, by both rules.
-pub fn compare_names(tally: &mut Tally, r: &mut Random, what: &str) {
+pub fn compare_names(tally: &mut Tally, r: &mut Random) {
     let (module, plan) = text_pair(r);
     let plan = r.percent(70).then_some(plan);
     for (name, rule) in [("name", Rule::Folded), (archived("name").as_str(), Rule::Exact)] {
@@ -190,7 +190,7 @@ pub fn compare_names(tally: &mut Tally, r: &mut Random, what: &str) {
             tally.saw(&outcome(name, &reply));
             tally.check(reply == answer && expected == actual, || {
                 let (module, plan) = (shown(&module), plan.as_deref().map(shown));
-                format!("{what}: {name} of {signal}\n  {module}\n  {plan:?}\n  expected {reply:?}\n  is       {answer:?}")
+                format!("{name} of {signal}\n  {module}\n  {plan:?}\n  expected {reply:?}\n  is       {answer:?}")
             });
             // Where the reading is refused, every lookup says the same.
             if reply.number != 0 && reply.number != 12 {

@@ -1,6 +1,7 @@
 //! The calls on tables: the archives against the reference, reply for reply and byte for byte.
 
 use crate::bytes::{from_bytes, to_bytes};
+use crate::cases::Cases;
 use crate::lent::Lent;
 use crate::random::Random;
 use crate::random_tables::{chain, chain_allowed, damage, meeting_tables, module_and_plan, refining_tables, sizes};
@@ -79,37 +80,30 @@ impl Case {
     }
 }
 
-/// Runs the cases, or one of them alone, and then asks that everything that can occur did.
-pub fn run(seed: u64, count: u64, only: Option<u64>) -> bool {
-    let mut tally = Tally::default();
-    for number in only.map_or(0..count, |case| case..case + 1) {
-        compare(&mut tally, seed, number, random_case(&mut Random::of_case(seed, number)));
-    }
-    if only.is_none() {
-        compare_chains(&mut tally, seed, count);
-    }
-    if only.is_none() && count >= 20_000 {
-        ask_for_all_outcomes(&mut tally);
+/// Runs the cases, and then asks that everything that can occur did.
+pub fn run(cases: &Cases, tally: &mut Tally) {
+    cases.run(tally, |r, tally| compare(tally, if r.case() < CHAINS { chain_case(r) } else { random_case(r) }));
+    if cases.are_at_least(20_000) {
+        ask_for_all_outcomes(tally);
     }
     // The rarest place comes about once in 6,000 cases.
-    if only.is_none() && count >= 50_000 {
-        ask_for_all_places(&mut tally);
+    if cases.are_at_least(50_000) {
+        ask_for_all_places(tally);
     }
-    tally.finish()
 }
 
-fn compare(tally: &mut Tally, seed: u64, number: u64, case: Case) {
+fn compare(tally: &mut Tally, case: Case) {
     let (mut expected, mut actual) = (case.clone(), case.clone());
     let reply = by_reference(&mut expected);
     let answer = by_archive(&mut actual);
     record(tally, &expected, &reply);
     if reply.bad_cell().is_some() {
-        mend_bad_cells(tally, seed, number, case.clone());
+        mend_bad_cells(tally, case.clone());
     }
     tally.check(reply == answer && expected == actual, || {
         let buffers = [expected.cells.difference(&actual.cells), expected.flags.difference(&actual.flags)];
         format!(
-            "tables, seed {seed}, case {number}: {case:?}\n  expected {reply:?}, state {}\n  is       {answer:?}, state {}\n  cells and flags: {buffers:?}",
+            "{case:?}\n  expected {reply:?}, state {}\n  is       {answer:?}, state {}\n  cells and flags: {buffers:?}",
             expected.state, actual.state
         )
     });
@@ -117,7 +111,7 @@ fn compare(tally: &mut Tally, seed: u64, number: u64, case: Case) {
 
 /// Mends each bad cell that the archive names and calls again, until it names none. The reference is not asked: the first table's cells have to be
 /// named before the second's, and those of one table in the order of faults. So all bad cells are named, each in its turn and by its own number.
-fn mend_bad_cells(tally: &mut Tally, seed: u64, number: u64, mut case: Case) {
+fn mend_bad_cells(tally: &mut Tally, mut case: Case) {
     let mut named = Vec::new();
     let mut answer = by_archive(&mut case);
     while let Some(cell) = answer.bad_cell() {
@@ -130,7 +124,7 @@ fn mend_bad_cells(tally: &mut Tally, seed: u64, number: u64, mut case: Case) {
         answer = by_archive(&mut case);
     }
     tally.saw(mended(named.len()));
-    tally.check(answer.bad_cell().is_none(), || format!("tables, seed {seed}, case {number}: bad cells named out of turn: {named:?}\n  {case:?}"));
+    tally.check(answer.bad_cell().is_none(), || format!("bad cells named out of turn: {named:?}\n  {case:?}"));
 }
 
 fn by_reference(case: &mut Case) -> Reply {
@@ -281,18 +275,21 @@ fn random_bytes(r: &mut Random, table: &Table, faults: usize) -> Vec<u8> {
     bytes
 }
 
-/// The longest fixpoints there are: as many rounds as pairs.
-fn compare_chains(tally: &mut Tally, seed: u64, number: u64) {
-    let r = &mut Random::of_case(seed, number);
-    for length in [2, 17, 1_024, 4_096] {
-        for call in [Fit, Compose, CFit, Refine, CRefine] {
-            let (a, taker) = chain(length);
-            let b = if matches!(call, Refine | CRefine) { chain_allowed() } else { taker };
-            let (cells, flags) = (Lent::arbitrary(r, length * SIGNALS), Lent::arbitrary(r, length));
-            let (a_bytes, b_bytes) = (to_bytes(&a.cells), to_bytes(&b.cells));
-            compare(tally, seed, number, Case { call, a, b, a_bytes, b_bytes, state: 0, signal: 0, cells, flags });
-        }
-    }
+const CHAIN_CALLS: [Call; 5] = [Fit, Compose, CFit, Refine, CRefine];
+const CHAIN_LENGTHS: [usize; 4] = [2, 17, 1_024, 4_096];
+
+/// How many of the first cases are chains: each length with each call.
+const CHAINS: u64 = (CHAIN_CALLS.len() * CHAIN_LENGTHS.len()) as u64;
+
+/// Takes the longest fixpoints there are: as many rounds as pairs.
+fn chain_case(r: &mut Random) -> Case {
+    let number = r.case() as usize;
+    let (call, length) = (CHAIN_CALLS[number % CHAIN_CALLS.len()], CHAIN_LENGTHS[number / CHAIN_CALLS.len()]);
+    let (a, taker) = chain(length);
+    let b = if matches!(call, Refine | CRefine) { chain_allowed() } else { taker };
+    let (cells, flags) = (Lent::arbitrary(r, length * SIGNALS), Lent::arbitrary(r, length));
+    let (a_bytes, b_bytes) = (to_bytes(&a.cells), to_bytes(&b.cells));
+    Case { call, a, b, a_bytes, b_bytes, state: 0, signal: 0, cells, flags }
 }
 
 fn record(tally: &mut Tally, done: &Case, reply: &Reply) {

@@ -1,5 +1,6 @@
 //! Table text: reading, lookup, writing and the program's report, the archive against the reference.
 
+use crate::cases::Cases;
 use crate::compare_readings::{archive_name, archived, compare_alone, compare_names, compare_together};
 use crate::lent::Lent;
 use crate::program::{self, Buffers, Room, PROGRAM};
@@ -15,23 +16,17 @@ use crate::{archive, orders, places, spellings, writer};
 /// Room for the text of a sequencer with the six lines before it.
 const REPORT_BYTES: usize = 65_536 + 256;
 
-pub fn run(seed: u64, count: u64, only: Option<u64>) -> bool {
-    let mut tally = Tally::default();
-    for case in only.map_or(0..count, |case| case..case + 1) {
-        let r = &mut Random::of_case(seed, case);
-        let what = format!("texts, seed {seed}, case {case}");
-        match r.below(20) {
-            0..=5 => compare_alone(&mut tally, r, &what),
-            6..=11 => compare_together(&mut tally, r, &what),
-            12 => compare_names(&mut tally, r, &what),
-            13..=16 => compare_writing(&mut tally, r, &what),
-            _ => compare_report(&mut tally, r, &what),
-        }
+pub fn run(cases: &Cases, tally: &mut Tally) {
+    cases.run(tally, |r, tally| match r.below(20) {
+        0..=5 => compare_alone(tally, r),
+        6..=11 => compare_together(tally, r),
+        12 => compare_names(tally, r),
+        13..=16 => compare_writing(tally, r),
+        _ => compare_report(tally, r),
+    });
+    if cases.are_at_least(20_000) {
+        ask_for_all_outcomes(tally);
     }
-    if only.is_none() && count >= 20_000 {
-        ask_for_all_outcomes(&mut tally);
-    }
-    tally.finish()
 }
 
 /// The outcome of a second writing where the name of an undeclared signal is another, or missing.
@@ -55,7 +50,7 @@ impl Writing {
     }
 }
 
-fn compare_writing(tally: &mut Tally, r: &mut Random, what: &str) {
+fn compare_writing(tally: &mut Tally, r: &mut Random) {
     let writing = random_writing(r);
     let (table, name, names) = writing.parts();
     let length = if table.fault().is_none() { writer::text_of(table, name, &names).len() } else { 100 };
@@ -75,12 +70,12 @@ fn compare_writing(tally: &mut Tally, r: &mut Random, what: &str) {
     orders::record(tally, "write", &expected.part()[..reply.value]);
     tally.check(reply == answer && expected == actual, || {
         let (writing, bytes) = (writing.shown(), expected.difference(&actual));
-        format!("{what}: write, {room} bytes lent\n  {writing}\n  expected {reply:?}\n  is       {answer:?}\n  bytes {bytes:?}")
+        format!("write, {room} bytes lent\n  {writing}\n  expected {reply:?}\n  is       {answer:?}\n  bytes {bytes:?}")
     });
     if answer.number == 0 {
         let text = &actual.part()[..answer.value.min(room)];
-        tally.check(reads_again(table, &names, text), || format!("{what}: written and read again\n  {table:?}\n  {}", shown(text)));
-        write_again(tally, r, what, &writing, &answer, text);
+        tally.check(reads_again(table, &names, text), || format!("written and read again\n  {table:?}\n  {}", shown(text)));
+        write_again(tally, r, &writing, &answer, text);
     }
 }
 
@@ -109,7 +104,7 @@ fn record_names(tally: &mut Tally, Writing { table, name, names }: &Writing, see
 
 /// Equal tables, names and numbering have equal texts: the archive is held to itself. In the second call the undeclared signals have other names, and
 /// every byte that the text is to take is wrong beforehand.
-fn write_again(tally: &mut Tally, r: &mut Random, what: &str, first: &Writing, answer: &Reply, text: &[u8]) {
+fn write_again(tally: &mut Tally, r: &mut Random, first: &Writing, answer: &Reply, text: &[u8]) {
     let second = rename_undeclared(r, first);
     let room = text.len() + r.below(100);
     let mut expected = Lent::arbitrary(r, room);
@@ -123,7 +118,7 @@ fn write_again(tally: &mut Tally, r: &mut Random, what: &str, first: &Writing, a
     }
     tally.check(again == *answer && expected == actual, || {
         let (first, second, bytes) = (first.shown(), second.shown(), expected.difference(&actual));
-        format!("{what}: written again, {room} bytes lent\n  {first}\n  {second}\n  expected {answer:?}\n  is       {again:?}\n  bytes {bytes:?}")
+        format!("written again, {room} bytes lent\n  {first}\n  {second}\n  expected {answer:?}\n  is       {again:?}\n  bytes {bytes:?}")
     });
 }
 
@@ -214,7 +209,7 @@ fn reads_again(table: &Table, names: &[&[u8]], text: &[u8]) -> bool {
     same_numbers && same_count && members(table.signals()).all(same_signal) && beyond.iter().all(|&cell| cell == NO_STEP)
 }
 
-fn compare_report(tally: &mut Tally, r: &mut Random, what: &str) {
+fn compare_report(tally: &mut Tally, r: &mut Random) {
     let (module, plan) = text_pair(r);
     let room = match r.below(10) {
         0 => less_room(r),
@@ -232,7 +227,7 @@ fn compare_report(tally: &mut Tally, r: &mut Random, what: &str) {
     tally.check(length == text.len() && out == expected_out && expected == actual, || {
         let (module, plan, text, printed) = (shown(&module), shown(&plan), shown(&text), shown(&out[..length.min(REPORT_BYTES)]));
         let buffers = expected.differences(&actual);
-        format!("{what}: report\n  {module}\n  {plan}\n  expected {text}\n  is       {printed}\n  buffers {buffers:?}")
+        format!("report\n  {module}\n  {plan}\n  expected {text}\n  is       {printed}\n  buffers {buffers:?}")
     });
 }
 

@@ -2,6 +2,7 @@
 //! returns, and none does where the archive says that there is none.
 
 use crate::archive;
+use crate::cases::Cases;
 use crate::random::Random;
 use crate::random_tables::{module_and_plan, near};
 use crate::refine::refines;
@@ -15,37 +16,32 @@ const MOST_SEQUENCERS: usize = 7_000;
 const MEET: &str = "sequencers that make the module meet the plan";
 const MISS: &str = "sequencers that do not";
 
-pub fn run(seed: u64, count: u64, only: Option<u64>) -> bool {
-    let mut tally = Tally::default();
-    if only.is_none() {
-        try_all(&mut tally, 0b01, 3);
-        try_all(&mut tally, 0b11, 2);
+pub fn run(cases: &Cases, tally: &mut Tally) {
+    if cases.are_at_least(1) {
+        try_all(tally, 0b01, 3);
+        try_all(tally, 0b11, 2);
     }
-    for case in only.map_or(0..count, |case| case..case + 1) {
-        let r = &mut Random::of_case(seed, case);
-        let what = format!("demand3, seed {seed}, case {case}");
+    cases.run(tally, |r, tally| {
         let (module, plan) = random_pair(r, 3, |plan| how_many(2, plan.signals()) <= MOST_SEQUENCERS);
-        try_pair(&mut tally, &what, &module, &plan, 2);
+        try_pair(tally, &module, &plan, 2);
         let (module, plan) = random_pair(r, 6, |_| true);
-        try_larger(&mut tally, r, &what, &module, &plan);
+        try_larger(tally, r, &module, &plan);
+    });
+    if cases.are_at_least(1) {
+        [MEET, MISS, "pairs with a sequencer", "pairs with none"].iter().for_each(|outcome| tally.must_have_seen(outcome));
     }
-    for outcome in [MEET, MISS, "pairs with a sequencer", "pairs with none"] {
-        if only.is_none() {
-            tally.must_have_seen(outcome);
-        }
-    }
-    tally.finish()
 }
 
-/// A module and a plan that check 8 accepts.
+/// Draws a module and a plan that check 8 accepts. Two drawings in five do not suit; that none of so many does cannot be told from never.
 pub fn random_pair(r: &mut Random, most_states: usize, suits: impl Fn(&Table) -> bool) -> (Table, Table) {
-    loop {
+    const MOST_TRIES: usize = 100;
+    let draw = |_| {
         let sizes = (r.between(1, most_states), r.between(1, most_states));
-        let (module, plan) = module_and_plan(r, sizes);
-        if !lists_refused(&module, &plan) && suits(&plan) {
-            return (module, plan);
-        }
-    }
+        module_and_plan(r, sizes)
+    };
+    let mut pairs = (0..MOST_TRIES).map(draw);
+    let suiting = pairs.find(|(module, plan)| !lists_refused(module, plan) && suits(plan));
+    suiting.unwrap_or_else(|| (Table::blank(1, 0, 0, 0), Table::blank(1, 0, 0, 0)))
 }
 
 /// What a signal is to module and plan where check 8 accepts it: the module's lists hold it or not, then the plan's (inputs, outputs).
@@ -60,7 +56,7 @@ fn try_all(tally: &mut Tally, signals: u32, most_states: usize) {
             let [m_in, m_out, p_in, p_out] = [0, 1, 2, 3].map(|list| first[list] | second[list] << 1);
             for module in all_tables(2, m_in, m_out) {
                 for plan in all_tables(2, p_in, p_out) {
-                    try_pair(tally, "demand3, all small tables", &module, &plan, most_states);
+                    try_pair(tally, &module, &plan, most_states);
                 }
             }
         }
@@ -68,20 +64,20 @@ fn try_all(tally: &mut Tally, signals: u32, most_states: usize) {
 }
 
 /// Tries all sequencers of up to so many states, and the one returned. A module and plan count once.
-fn try_pair(tally: &mut Tally, what: &str, module: &Table, plan: &Table, most_states: usize) {
+fn try_pair(tally: &mut Tally, module: &Table, plan: &Table, most_states: usize) {
     let returned = returned_sequencer(module, plan);
     tally.saw(if returned.is_some() { "pairs with a sequencer" } else { "pairs with none" });
     let unfit = returned.as_ref().filter(|returned| !meets(module, returned, plan));
-    let mut fault = unfit.map(|returned| said(what, module, plan, returned, "the one returned does not meet the plan"));
+    let mut fault = unfit.map(|returned| said(module, plan, returned, "the one returned does not meet the plan"));
     let (inputs, outputs) = sequencer_lists(module, plan);
     for sequencer in all_tables(most_states, inputs, outputs) {
-        fault = fault.or(try_sequencer(tally, what, module, plan, &sequencer, returned.as_ref()));
+        fault = fault.or(try_sequencer(tally, module, plan, &sequencer, returned.as_ref()));
     }
     tally.check(fault.is_none(), || fault.unwrap_or_default());
 }
 
 /// Tries random sequencers of up to twelve states that are near the one returned, or near one that only waits.
-fn try_larger(tally: &mut Tally, r: &mut Random, what: &str, module: &Table, plan: &Table) {
+fn try_larger(tally: &mut Tally, r: &mut Random, module: &Table, plan: &Table) {
     let returned = returned_sequencer(module, plan);
     let (inputs, outputs) = sequencer_lists(module, plan);
     let waiting = Table::blank(1, 0, inputs, outputs);
@@ -90,17 +86,17 @@ fn try_larger(tally: &mut Tally, r: &mut Random, what: &str, module: &Table, pla
         let states = r.between(1, 12);
         let sequencer = near(r, returned.as_ref().unwrap_or(&waiting), states);
         tally.saw(&format!("larger sequencers, {}", if returned.is_some() { "near the one returned" } else { "where there is none" }));
-        fault = fault.or(try_sequencer(tally, what, module, plan, &sequencer, returned.as_ref()));
+        fault = fault.or(try_sequencer(tally, module, plan, &sequencer, returned.as_ref()));
     }
     tally.check(fault.is_none(), || fault.unwrap_or_default());
 }
 
 /// The equivalence of demand 3: what contradicts it, if anything does.
-fn try_sequencer(tally: &mut Tally, what: &str, module: &Table, plan: &Table, sequencer: &Table, returned: Option<&Table>) -> Option<String> {
+fn try_sequencer(tally: &mut Tally, module: &Table, plan: &Table, sequencer: &Table, returned: Option<&Table>) -> Option<String> {
     let meets = meets(module, sequencer, plan);
     let refines = returned.is_some_and(|returned| refines(sequencer, returned));
     tally.saw(if meets { MEET } else { MISS });
-    (meets != refines).then(|| said(what, module, plan, sequencer, &format!("meets the plan: {meets}, refines: {refines}")))
+    (meets != refines).then(|| said(module, plan, sequencer, &format!("meets the plan: {meets}, refines: {refines}")))
 }
 
 /// What the archive returns: the table that its reply and its buffer make, or none.
@@ -112,8 +108,8 @@ fn returned_sequencer(module: &Table, plan: &Table) -> Option<Table> {
     reply.yes.then_some(table)
 }
 
-fn said(what: &str, module: &Table, plan: &Table, sequencer: &Table, fault: &str) -> String {
-    format!("{what}: {fault}\n  module: {module:?}\n  plan: {plan:?}\n  sequencer: {sequencer:?}")
+fn said(module: &Table, plan: &Table, sequencer: &Table, fault: &str) -> String {
+    format!("{fault}\n  module: {module:?}\n  plan: {plan:?}\n  sequencer: {sequencer:?}")
 }
 
 /// How many tables of exactly so many states there are, with the first state fixed.

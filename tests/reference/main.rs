@@ -22,6 +22,7 @@
 mod archive;
 mod bytes;
 mod calls;
+mod cases;
 mod compare_ends;
 mod compare_flags;
 mod compare_readings;
@@ -53,6 +54,8 @@ mod text;
 mod ways;
 mod writer;
 
+use crate::cases::Cases;
+use crate::tally::Tally;
 use std::path::Path;
 use std::process::ExitCode;
 
@@ -78,20 +81,23 @@ fn run(arguments: &[&str]) -> Option<bool> {
     }
     let [what, seed, count, rest @ ..] = arguments else { return None };
     let (seed, count): (u64, u64) = (seed.parse().ok()?, count.parse().ok()?);
+    let (paths, only) = rest.split_at(if *what == "program" { rest.len().min(3) } else { 0 });
+    let cases = Cases { what, seed, count, only: one(only)? };
+    let mut tally = Tally::default();
     println!("{what}, seed {seed}");
-    match (*what, rest) {
-        ("tables", case) => Some(compare_tables::run(seed, count, one(case)?)),
-        ("texts", case) => Some(compare_texts::run(seed, count, one(case)?)),
-        ("demand3", case) => Some(demand3::run(seed, count, one(case)?)),
-        ("flags", case) => Some(compare_flags::run(seed, count, one(case)?)),
-        ("ends", case) => Some(compare_ends::run(seed, count, one(case)?)),
-        ("substitution", case) => Some(substitution::run(seed, count, one(case)?)),
-        ("program", [folder, sequencer, clashes, case @ ..]) => {
-            let programs = [Path::new(sequencer), Path::new(clashes)];
-            Some(run_program::run(seed, count, one(case)?, Path::new(folder), programs))
+    match (*what, paths) {
+        ("tables", []) => compare_tables::run(&cases, &mut tally),
+        ("texts", []) => compare_texts::run(&cases, &mut tally),
+        ("demand3", []) => demand3::run(&cases, &mut tally),
+        ("flags", []) => compare_flags::run(&cases, &mut tally),
+        ("ends", []) => compare_ends::run(&cases, &mut tally),
+        ("substitution", []) => substitution::run(&cases, &mut tally),
+        ("program", [folder, sequencer, clashes]) => {
+            run_program::run(&cases, &mut tally, Path::new(folder), [Path::new(sequencer), Path::new(clashes)]);
         }
-        _ => None,
+        _ => return None,
     }
+    Some(tally.finish())
 }
 
 /// The case that is asked for alone, if one is.

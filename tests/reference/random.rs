@@ -1,19 +1,27 @@
 //! A small seeded generator, so that a case is repeated by its seed and number alone.
 
-pub struct Random(u64);
+pub struct Random {
+    state: u64,
+    case: u64,
+}
 
 impl Random {
     /// The stream of one case. The numbers are spread first: neighbouring cases must not look alike.
     pub fn of_case(seed: u64, case: u64) -> Random {
-        Random(spread(seed ^ spread(case)) | 1)
+        Random { state: spread(seed ^ spread(case)) | 1, case }
+    }
+
+    /// The number of the case, by which the first cases may be chosen.
+    pub fn case(&self) -> u64 {
+        self.case
     }
 
     /// Xorshift, with a multiplication to even out the bits.
     fn next(&mut self) -> u64 {
-        self.0 ^= self.0 >> 12;
-        self.0 ^= self.0 << 25;
-        self.0 ^= self.0 >> 27;
-        self.0.wrapping_mul(0x2545_f491_4f6c_dd1d) >> 16
+        self.state ^= self.state >> 12;
+        self.state ^= self.state << 25;
+        self.state ^= self.state >> 27;
+        self.state.wrapping_mul(0x2545_f491_4f6c_dd1d) >> 16
     }
 
     pub fn below(&mut self, bound: usize) -> usize {

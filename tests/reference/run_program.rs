@@ -1,5 +1,6 @@
 //! The two programs themselves, run in a scratch folder on files, against what the reference prints.
 
+use crate::cases::Cases;
 use crate::compare_texts::{headline, shown};
 use crate::random::Random;
 use crate::random_texts::{text_of_length, text_pair};
@@ -63,24 +64,18 @@ const MAIN: &str = "program";
 const LISTER: &str = "clashes";
 
 /// `programs` are the main program and the lister. The folder is made if it is not there, and the two files in it are removed at the end.
-pub fn run(seed: u64, count: u64, only: Option<u64>, folder: &Path, programs: [&Path; 2]) -> bool {
-    let mut tally = Tally::default();
+pub fn run(cases: &Cases, tally: &mut Tally, folder: &Path, programs: [&Path; 2]) {
     let Ok(programs) = prepare(folder, programs) else {
-        tally.check(false, || format!("program: no folder {} or no program among {programs:?}", folder.display()));
-        return tally.finish();
+        return tally.check(false, || format!("program: no folder {} or no program among {programs:?}", folder.display()));
     };
-    for case in only.map_or(0..count, |case| case..case + 1) {
-        let files = random_files(&mut Random::of_case(seed, case), case);
-        compare(&mut tally, &format!("seed {seed}, case {case}"), &files, folder, &programs);
-    }
+    cases.run(tally, |r, tally| compare(tally, &random_files(r), folder, &programs));
     for name in ["module.tab", "plan.tab"] {
         let removed = clear(&folder.join(name));
         tally.check(removed.is_ok(), || format!("program: {name} cannot be removed"));
     }
-    if only.is_none() && count >= 200 {
-        ask_for_all_outcomes(&mut tally);
+    if cases.are_at_least(200) {
+        ask_for_all_outcomes(tally);
     }
-    tally.finish()
 }
 
 fn prepare(folder: &Path, [main, lister]: [&Path; 2]) -> std::io::Result<[Program; 2]> {
@@ -92,9 +87,9 @@ fn prepare(folder: &Path, [main, lister]: [&Path; 2]) -> std::io::Result<[Progra
 }
 
 /// Places the two files, and runs each program on them.
-fn compare(tally: &mut Tally, what: &str, (module, plan): &(Content, Content), folder: &Path, programs: &[Program; 2]) {
+fn compare(tally: &mut Tally, (module, plan): &(Content, Content), folder: &Path, programs: &[Program; 2]) {
     let placed = module.place(&folder.join("module.tab")).and_then(|()| plan.place(&folder.join("plan.tab")));
-    tally.check(placed.is_ok(), || format!("{what}: the files cannot be written"));
+    tally.check(placed.is_ok(), || "the files cannot be written".to_string());
     for Program { path, name, print } in programs {
         let expected = print(module.bytes(), plan.bytes());
         tally.saw(&format!("{name}: {}", said(&expected)));
@@ -103,7 +98,7 @@ fn compare(tally: &mut Tally, what: &str, (module, plan): &(Content, Content), f
         let right = |run: &std::process::Output| run.status.code() == Some(0) && run.stderr.is_empty() && run.stdout == expected;
         tally.check(run.as_ref().is_ok_and(right), || {
             let said = run.map_or_else(|error| error.to_string(), |run| format!("{}, {}, {}", run.status, shown(&run.stdout), shown(&run.stderr)));
-            format!("{name}, {what}\n  {}\n  {}\n  expected {}\n  is       {said}", module.shown(), plan.shown(), shown(&expected))
+            format!("{name}\n  {}\n  {}\n  expected {}\n  is       {said}", module.shown(), plan.shown(), shown(&expected))
         });
     }
 }
@@ -135,10 +130,10 @@ fn ask_for_all_outcomes(tally: &mut Tally) {
 }
 
 /// The first cases are files that can't be read and files at the limit, in both places; the rest are random.
-fn random_files(r: &mut Random, case: u64) -> (Content, Content) {
+fn random_files(r: &mut Random) -> (Content, Content) {
     let (module, plan) = text_pair(r);
     let (module, plan) = (Bytes(module), Bytes(plan));
-    match case {
+    match r.case() {
         0 => (Missing, plan),
         1 => (module, Missing),
         2 => (Missing, Missing),

@@ -3,6 +3,7 @@
 //! Z, pairs swapped. The reference is not asked: answers of the archive are compared with each other.
 
 use crate::archive;
+use crate::cases::Cases;
 use crate::random::Random;
 use crate::random_tables::{near_or_loosened, part_and_surroundings};
 use crate::reply::Reply;
@@ -39,17 +40,15 @@ struct Composition {
     flags: Vec<u8>,
 }
 
-pub fn run(seed: u64, count: u64, only: Option<u64>) -> bool {
-    let mut tally = Tally::default();
-    for number in only.map_or(0..count, |case| case..case + 1) {
-        let case = random_case(&mut Random::of_case(seed, number));
-        let fault = try_order(&mut tally, &case).or(try_substitution(&mut tally, &case)).or(try_swap(&mut tally, &case));
-        tally.check(fault.is_none(), || format!("substitution, seed {seed}, case {number}: {}\n  {case:?}", fault.unwrap_or_default()));
+pub fn run(cases: &Cases, tally: &mut Tally) {
+    cases.run(tally, |r, tally| {
+        let case = random_case(r);
+        let fault = try_order(tally, &case).or(try_substitution(tally, &case)).or(try_swap(tally, &case));
+        tally.check(fault.is_none(), || format!("{}\n  {case:?}", fault.unwrap_or_default()));
+    });
+    if cases.are_at_least(1) {
+        ask_for_outcomes(tally, cases.count);
     }
-    if only.is_none() {
-        ask_for_outcomes(&mut tally, count);
-    }
-    tally.finish()
 }
 
 /// Half of the cases are drawn again, 49 times at most, until the composition of Y with Z drops pairs and moves; few do by chance.

@@ -7,21 +7,36 @@ pub struct Tally {
     passed: u64,
     failed: u64,
     seen: BTreeMap<String, u64>,
+    /// Holds what is said of the first failure of the case that runs.
+    failure: Option<String>,
+    in_case: bool,
 }
 
 const MOST_SHOWN: u64 = 20;
 
 impl Tally {
-    /// One check; what it says of a failure is shown for the first failures alone.
+    /// Counts one check. What it says of a failure is shown at once, for the first failures alone; within a case the driver shows it.
     pub fn check(&mut self, holds: bool, say: impl FnOnce() -> String) {
         if holds {
             self.passed += 1;
             return;
         }
         self.failed += 1;
-        if self.failed <= MOST_SHOWN {
+        if self.in_case {
+            self.failure.get_or_insert_with(say);
+        } else if self.failed <= MOST_SHOWN {
             println!("failed: {}", say());
         }
+    }
+
+    pub fn begin_case(&mut self) {
+        self.in_case = true;
+    }
+
+    /// Ends the case; returns what is said of its first failure.
+    pub fn end_case(&mut self) -> Option<String> {
+        self.in_case = false;
+        self.failure.take()
     }
 
     pub fn saw(&mut self, outcome: &str) {
