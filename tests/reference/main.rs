@@ -8,7 +8,7 @@
 //! `count_ends` and `mark_reached` do where the sizes do not agree; 10 where `report` is lent less than the program lends; that a report which is
 //! refused after the reading leaves its tables as a refused reading does; what `list` returns where it is lent too few bytes.
 //!
-//!     reference selftest CASES CLASHES                               the reference alone, on folders of expected output
+//!     reference selftest CASES CLASHES                               what was worked out by hand: folders of texts, situations
 //!     reference tables SEED COUNT [CASE]                             the calls on tables
 //!     reference texts SEED COUNT [CASE]                              reading, lookup, listing of clashes, writing, report
 //!     reference demand3 SEED COUNT [CASE]                            all small sequencers

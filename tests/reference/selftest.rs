@@ -1,6 +1,10 @@
-//! The reference alone, held to the folders of expected output: each has module.tab and plan.tab, or lacks one, and what is printed.
+//! What was worked out by hand: the folders of cases, each with module.tab and plan.tab, or without one, and what is printed; and situations of tables.
+//! The reference is held to all of it, and the archive to the situations and, on the texts of every folder, to the reference.
 
-use crate::compare_texts::shown;
+use crate::compare_readings::{compare_lookups, compare_reading};
+use crate::compare_texts::{ask_for_refusals_of_readings, compare_report_of, shown};
+use crate::program::PROGRAM;
+use crate::random::Random;
 use crate::tally::Tally;
 use crate::{lister, program, situations};
 use std::fs;
@@ -11,23 +15,58 @@ pub fn run(cases: &Path, clashes: &Path) -> bool {
     let mut tally = Tally::default();
     for folder in folders(&mut tally, cases) {
         compare(&mut tally, &folder, "stdout", program::print);
+        compare_calls(&mut tally, &folder);
     }
     for folder in folders(&mut tally, clashes) {
         compare(&mut tally, &folder, "stdout", lister::print);
         compare(&mut tally, &folder, "main", program::print);
+        compare_calls(&mut tally, &folder);
     }
+    ask_for_all_outcomes(&mut tally);
     situations::compare(&mut tally);
     tally.finish()
 }
 
+/// The two files of a folder; nothing for one that can't be read.
+pub fn files(folder: &Path) -> [Option<Vec<u8>>; 2] {
+    ["module.tab", "plan.tab"].map(|name| fs::read(folder.join(name)).ok())
+}
+
 fn compare(tally: &mut Tally, folder: &Path, expected: &str, print: fn(Option<&[u8]>, Option<&[u8]>) -> Vec<u8>) {
-    let (module, plan) = (fs::read(folder.join("module.tab")).ok(), fs::read(folder.join("plan.tab")).ok());
+    let [module, plan] = files(folder);
     let printed = print(module.as_deref(), plan.as_deref());
     let expected = fs::read(folder.join(expected));
     tally.check(expected.as_ref().is_ok_and(|expected| *expected == printed), || {
         let expected = expected.map_or_else(|error| error.to_string(), |expected| shown(&expected));
         format!("selftest, {}\n  expected {expected}\n  is       {}", folder.display(), shown(&printed))
     });
+}
+
+/// Holds the archive to the reference: each text alone, and the two together, by all calls that read texts. As many cells are lent as by the program.
+fn compare_calls(tally: &mut Tally, folder: &Path) {
+    let r = &mut Random::of_case(0, 0);
+    let [module, plan] = files(folder);
+    tally.begin_case();
+    for text in [&module, &plan].into_iter().flatten() {
+        compare_reading(tally, r, (text, PROGRAM.module_cells), None);
+        compare_lookups(tally, r, text, None);
+    }
+    if let (Some(module), Some(plan)) = (module, plan) {
+        compare_reading(tally, r, (&module, PROGRAM.module_cells), Some((&plan, PROGRAM.plan_cells)));
+        compare_lookups(tally, r, &module, Some(&plan));
+        compare_report_of(tally, r, &module, &plan, &PROGRAM);
+    }
+    if let Some(failure) = tally.end_case() {
+        println!("failed: selftest, {}: {failure}", folder.display());
+    }
+}
+
+/// The folders have to hold a text for every refusal of a reading, of either text, and for every other outcome of a report.
+fn ask_for_all_outcomes(tally: &mut Tally) {
+    ask_for_refusals_of_readings(tally);
+    for outcome in ["verdict yes", "verdict none", "refused  8 of 0", "refused  9 of 0", "refused 10 of 0", "refused 23 of 0"] {
+        tally.must_have_seen(&format!("report: {outcome}"));
+    }
 }
 
 /// The folders of cases; to have none is a failure.
