@@ -45,6 +45,7 @@ mod reply;
 mod run_program;
 mod selftest;
 mod situations;
+mod smaller;
 mod spellings;
 mod substitution;
 mod synth;

@@ -57,7 +57,7 @@ fn compare_calls(tally: &mut Tally, folder: &Path) {
         compare_report_of(tally, r, &module, &plan, &PROGRAM);
     }
     if let Some(failure) = tally.end_case() {
-        println!("failed: selftest, {}: {failure}", folder.display());
+        println!("failed: selftest, {}: {}", folder.display(), failure.words);
     }
 }
 
