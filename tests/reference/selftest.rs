@@ -50,7 +50,7 @@ fn compare_calls(tally: &mut Tally, folder: &Path) {
         tally.begin_case();
         compare_texts(tally, &mut Random::of_case(0, case), module.as_deref(), plan.as_deref());
         if let Some(failure) = tally.end_case() {
-            println!("failed: selftest, {}: {}", folder.display(), failure.words);
+            return println!("failed: selftest, {}: {}", folder.display(), failure.words);
         }
     }
 }
