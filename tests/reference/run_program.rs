@@ -63,7 +63,7 @@ struct Program {
 const MAIN: &str = "program";
 const LISTER: &str = "clashes";
 
-/// `programs` are the main program and the lister. The folder is made if it is not there, and the two files in it are removed at the end.
+/// `programs` are the program and the lister of clashes. The folder is made if it is not there, and the two files in it are removed at the end.
 pub fn run(cases: &Cases, tally: &mut Tally, folder: &Path, programs: [&Path; 2]) {
     let Ok(programs) = prepare(folder, programs) else {
         return tally.check(false, || format!("program: no folder {} or no program among {programs:?}", folder.display()));
@@ -102,7 +102,7 @@ fn compare(tally: &mut Tally, (module, plan): &(Content, Content), folder: &Path
     }
 }
 
-/// What a program prints in a folder, if it ends well and says nothing on standard error; else what became of it.
+/// Runs a program in a folder; gives what it prints if it ends well and says nothing on standard error, else what became of it.
 pub fn output_of(program: &Path, folder: &Path) -> Result<Vec<u8>, String> {
     let run = Command::new(program).current_dir(folder).stdin(Stdio::null()).output().map_err(|error| error.to_string())?;
     if run.status.code() == Some(0) && run.stderr.is_empty() {
