@@ -102,24 +102,31 @@ impl Given {
 pub fn compare_alone(tally: &mut Tally, r: &mut Random) {
     let (module, plan) = text_pair(r);
     let module = if r.percent(50) { module } else { plan };
-    let cells = Cells { module: lent_cells(r, &module), plan: Lent::arbitrary(r, SIGNALS) };
-    compare(tally, r, &Given { is_alone: true, module, plan: BARE_PLAN.to_vec(), cells });
+    let room = room_to_lend(r, &module);
+    compare_reading(tally, r, (&module, room), None);
 }
 
 pub fn compare_together(tally: &mut Tally, r: &mut Random) {
     let (module, plan) = text_pair(r);
-    let cells = Cells { module: lent_cells(r, &module), plan: lent_cells(r, &plan) };
-    compare(tally, r, &Given { is_alone: false, module, plan, cells });
+    let rooms = (room_to_lend(r, &module), room_to_lend(r, &plan));
+    compare_reading(tally, r, (&module, rooms.0), Some((&plan, rooms.1)));
+}
+
+/// Reads two texts together, or one alone, each with so many cells lent, and lists their clashes.
+pub fn compare_reading(tally: &mut Tally, r: &mut Random, (module, room): (&[u8], usize), plan: Option<(&[u8], usize)>) {
+    let is_alone = plan.is_none();
+    let (plan, plan_room) = plan.unwrap_or((BARE_PLAN, SIGNALS));
+    let cells = Cells { module: Lent::arbitrary(r, room), plan: Lent::arbitrary(r, plan_room) };
+    compare(tally, r, &Given { is_alone, module: module.to_vec(), plan: plan.to_vec(), cells });
 }
 
 /// Cells to lend: mostly as many as the text's first line seems to ask for, else fewer or more.
-fn lent_cells(r: &mut Random, text: &[u8]) -> Lent<u16> {
+fn room_to_lend(r: &mut Random, text: &[u8]) -> usize {
     let field = text.split(|&byte| byte == b'\t').nth(2).unwrap_or(b"");
     let states: usize = std::str::from_utf8(field).ok().and_then(|digits| digits.parse().ok()).unwrap_or(0);
     let asked = states.clamp(1, 4_097) * SIGNALS;
     let enough = r.pick(&[asked, asked, asked + 1, asked + 77, asked.max(PROGRAM.cells)]);
-    let room = if r.percent(10) { r.pick(&[0, asked / 2, asked - SIGNALS, asked - 1]) } else { enough };
-    Lent::arbitrary(r, room)
+    if r.percent(10) { r.pick(&[0, asked / 2, asked - SIGNALS, asked - 1]) } else { enough }
 }
 
 fn compare(tally: &mut Tally, r: &mut Random, given: &Given) {
@@ -176,20 +183,24 @@ fn put(out: &mut [u8], text: &[u8]) -> usize {
     if text.len() <= room { text.len() } else { room + 1 }
 }
 
-/// Looks up every signal number, and some that are far too large, by both rules.
 pub fn compare_names(tally: &mut Tally, r: &mut Random) {
     let (module, plan) = text_pair(r);
     let plan = r.percent(70).then_some(plan);
+    compare_lookups(tally, r, &module, plan.as_deref());
+}
+
+/// Looks up every signal number, and some that are far too large, by both rules.
+pub fn compare_lookups(tally: &mut Tally, r: &mut Random, module: &[u8], plan: Option<&[u8]>) {
     for (name, rule) in [("name", Rule::Folded), (archived("name").as_str(), Rule::Exact)] {
         let signals = (0..=SIGNALS).chain([64, 65_536, 1 << 32, usize::MAX]);
         for signal in signals {
             let mut expected: Lent<u8> = Lent::arbitrary(r, NAME_BYTES);
             let mut actual = expected.clone();
-            let reply = look_up(rule, &module, plan.as_deref(), signal, expected.part());
-            let answer = archive::name(rule, &module, plan.as_deref(), signal, actual.part());
+            let reply = look_up(rule, module, plan, signal, expected.part());
+            let answer = archive::name(rule, module, plan, signal, actual.part());
             tally.saw(&outcome(name, &reply));
             tally.check(reply == answer && expected == actual, || {
-                let (module, plan) = (shown(&module), plan.as_deref().map(shown));
+                let (module, plan) = (shown(module), plan.map(shown));
                 format!("{name} of {signal}\n  {module}\n  {plan:?}\n  expected {reply:?}\n  is       {answer:?}")
             });
             // Where the reading is refused, every lookup says the same.

@@ -216,16 +216,21 @@ fn compare_report(tally: &mut Tally, r: &mut Random) {
         8 => MORE_ROOM,
         _ => less_room(r),
     };
-    let mut expected = Buffers::arbitrary(r, &room);
+    compare_report_of(tally, r, &module, &plan, &room);
+}
+
+/// Reports on two texts, with so many cells and flags lent.
+pub fn compare_report_of(tally: &mut Tally, r: &mut Random, module: &[u8], plan: &[u8], room: &Room) {
+    let mut expected = Buffers::arbitrary(r, room);
     let mut actual = expected.clone();
     let (mut expected_out, mut out) = (vec![0; REPORT_BYTES], vec![0; REPORT_BYTES]);
-    let text = program::report(&module, &plan, &mut expected);
+    let text = program::report(module, plan, &mut expected);
     expected_out[..text.len()].copy_from_slice(&text);
-    let length = archive::report(&module, &plan, &mut actual, &mut out);
+    let length = archive::report(module, plan, &mut actual, &mut out);
     tally.saw(&format!("report: {}", headline(&text)));
     orders::record(tally, "report", &text);
     tally.check(length == text.len() && out == expected_out && expected == actual, || {
-        let (module, plan, text, printed) = (shown(&module), shown(&plan), shown(&text), shown(&out[..length.min(REPORT_BYTES)]));
+        let (module, plan, text, printed) = (shown(module), shown(plan), shown(&text), shown(&out[..length.min(REPORT_BYTES)]));
         let buffers = expected.differences(&actual);
         format!("report\n  {module}\n  {plan}\n  expected {text}\n  is       {printed}\n  buffers {buffers:?}")
     });
@@ -296,7 +301,7 @@ fn ask_for_all_outcomes(tally: &mut Tally) {
 }
 
 /// The calls of the archive reading keep document 01's rule, so they have no 28.
-fn ask_for_refusals_of_readings(tally: &mut Tally) {
+pub fn ask_for_refusals_of_readings(tally: &mut Tally) {
     let by_exact = [1, 2, 10, 13, 14, 15, 16, 17, 18, 19, 20, 21, 22];
     for number in by_exact {
         ask_for_refusal(tally, number, [&archived("alone"), &archived("together"), &archived("name"), "list"]);
