@@ -4,16 +4,15 @@
 # crate's proof and wrong programs.
 script=gate
 . "$(dirname -- "$0")/counted.sh" || { echo "0 passed, 1 failed"; exit 1; }
-
 . tests/stages.sh || exit 1
 
 stage "layout" rt fmt --check
 stage "contracts" python3 tests/contracts.py
 stage "contracts that are wrong" python3 tests/contracts_test.py
 stage "wrong programs that show nothing" python3 tests/wrong_programs_test.py
+stage "picture" python3 tests/draw_test.py
 stage "claims" python3 tests/claims.py
 stage "readings" python3 tests/readings.py
-stage "picture" python3 tests/draw_test.py
 counted "proofs" rt ci
 cp "$work/log" "$work/proofs"
 stage "edits" python3 tests/edits.py
