@@ -11,6 +11,7 @@ stage "contracts" python3 tests/contracts.py
 stage "contracts that are wrong" python3 tests/contracts_test.py
 stage "wrong programs that show nothing" python3 tests/wrong_programs_test.py
 stage "picture" python3 tests/draw_test.py
+stage "tools" python3 tests/tools_test.py
 stage "claims" python3 tests/claims.py
 stage "readings" python3 tests/readings.py
 counted "proofs" rt ci

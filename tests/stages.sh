@@ -7,7 +7,7 @@ end_stage() {
     echo "$script: $1: $3 ($2 s)"
 }
 
-# stage NAME COMMAND..: a stage that passes or fails as one.
+# stage NAME COMMAND..: a stage that passes or fails as one; its status is the command's.
 stage() {
     local name=$1 began=$SECONDS
     shift
@@ -17,6 +17,7 @@ stage() {
     else
         failed=$((failed + 1))
         end_stage "$name" "$((SECONDS - began))" FAILED
+        return 1
     fi
 }
 
