@@ -1,7 +1,7 @@
 #!/usr/bin/env bash
 # The whole gate. Every stage runs, whatever an earlier one said; the last line is the sum, 'N passed, M failed', and the exit status is 0
-# only if M is 0. However the script ends, it ends with such a line. Before it stands where the time went: the seconds of each stage, and those of each
-# crate's proof and wrong programs.
+# only if M is 0. However the script ends, it ends with such a line. Before it stands where the time went: the seconds of each stage, and those
+# of the proof and of the wrong programs of each crate.
 script=gate
 . "$(dirname -- "$0")/counted.sh" || { echo "0 passed, 1 failed"; exit 1; }
 . tests/stages.sh || exit 1
@@ -17,19 +17,16 @@ stage "readings" python3 tests/readings.py
 counted "proofs" rt ci
 cp "$work/log" "$work/proofs"
 stage "edits" python3 tests/edits.py
-# The archives are built while the program is tried: neither needs the other.
-bash tests/archives.sh >"$work/built" 2>&1 &
-archives=$!
-archives_built() {
-    wait "$archives" || { cat "$work/built"; return 1; }
-}
+# No other stage needs this one, which takes longest.
+beside "$work/valgrind" python3 tests/cases.py valgrind -q --error-exitcode=9
 counted "cases" python3 tests/cases.py
-counted "cases under valgrind" python3 tests/cases.py valgrind -q --error-exitcode=9
 counted "examples" python3 tests/examples.py target/bin/sequencer
-stage "archives" archives_built
+stage "archives" bash tests/archives.sh
 counted "boundary" bash tests/boundary.sh
 counted "reference" bash tests/reference.sh
 stage "bench" bash bench/run.sh agree
+wait
+counted "cases under valgrind" said "$work/valgrind"
 
 python3 tests/times.py "$work/stages" "$work/proofs" || failed=$((failed + 1))
 finished=yes

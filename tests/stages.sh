@@ -1,4 +1,4 @@
-# Sourced by gate.sh and quick.sh behind counted.sh: runs stages one after the other and counts them. A stage's last line says what came of it, and
+# Sourced by gate.sh and quick.sh behind counted.sh: runs stages one after the other and counts them. A stage's last line says what came of it;
 # $work/stages has a line for each: its seconds, a tab, its name.
 
 # end_stage NAME SECONDS WORDS: says what came of a stage, and how long it took.
@@ -41,4 +41,16 @@ counted() {
         failed=$((failed + 1))
         end_stage "$name" "$((SECONDS - began))" "FAILED, no count"
     fi
+}
+
+# beside FILE COMMAND..: starts a command that runs beside the stages that follow. Behind `wait`, `said FILE` prints what it printed, and its
+# status is that of the command.
+beside() {
+    local file=$1
+    shift
+    { "$@" >"$file" 2>&1; echo $? >"$file.status"; } &
+}
+said() {
+    cat "$1"
+    return "$(cat "$1.status")"
 }

@@ -53,11 +53,12 @@ class Progress:
 
     def look(self):
         """Says which crates rt has begun to prove since the last look."""
-        ended = set(ENDED.findall(self.printed()))
-        for crate in self.crates:
-            if crate not in self.begun and changed_at(crate) != self.before[crate]:
-                self.begun.add(crate)
-                self.say(f"proving {len(self.begun | ended)} of {len(self.crates)}: {crate}")
+        ended = ENDED.findall(self.printed())
+        new = [crate for crate in self.crates if crate not in self.begun and changed_at(crate) != self.before[crate]]
+        for crate in sorted(new, key=changed_at):
+            self.begun.add(crate)
+            earlier = ended[: ended.index(crate)] if crate in ended else ended
+            self.say(f"proving {len(self.begun.union(earlier))} of {len(self.crates)}: {crate}")
 
     def failure(self):
         """What rt printed, without what it says of crates that are proved."""
