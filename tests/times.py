@@ -36,15 +36,16 @@ def row(*fields):
 def main():
     stages = [line.split("\t", 1) for line in read(sys.argv[1]).splitlines()]
     printed = read(sys.argv[2])
-    proofs, edits = sums(PROOF.findall(printed)), sums(EDITS.findall(printed))
-    crates = sorted(CRATE.findall(read("crates.txt")), key=lambda crate: -proofs[crate] - edits[crate])
+    proof, edits = PROOF.findall(printed), EDITS.findall(printed)
+    columns = sums(proof), sums(edits), sums(proof + edits)
+    crates = sorted(CRATE.findall(read("crates.txt")), key=lambda crate: -columns[2][crate])
     print(row("stage", "seconds"))
     print("\n".join(row(name, seconds) for seconds, name in stages))
     print(row("sum", sum(int(seconds) for seconds, _ in stages)))
     print(row("crate", "proof", "edits", "both"))
-    print("\n".join(row(crate, *(of.get(crate, "-") for of in (proofs, edits, proofs + edits))) for crate in crates))
-    print(row("sum", sum(proofs.values()), sum(edits.values()), sum((proofs + edits).values())))
-    return 0 if stages and proofs and edits else 1
+    print("\n".join(row(crate, *(column.get(crate, "-") for column in columns)) for crate in crates))
+    print(row("sum", *(sum(column.values()) for column in columns)))
+    return 0 if stages and proof and edits else 1
 
 
 if __name__ == "__main__":
