@@ -1,7 +1,7 @@
 #!/usr/bin/env bash
-# Builds the two archives from proved crates: the one for C, and the one of all calls. boundary.sh, reference.sh and bench/run.sh link them. It says on
-# standard error what it does. An archive is built again only if something that it is made of has changed: beside it, NAME.made has rt's stamp of the
-# crate (a hash of its files, of all that it needs and of the kit), the hash of this script, and that of the archive itself.
+# Builds the two archives from proved crates: the one for C, and the one of all calls. boundary.sh, reference.sh and bench/run.sh link them. Says
+# on standard error what it does. Builds an archive only if what it is made of has changed: beside it, NAME.made has rt's stamp of the crate (a hash
+# of its files, of all that it needs and of the kit), the hash of this script, and that of the archive itself.
 #
 # Every function begins at a multiple of 64 bytes. Else the linker decides where the kernel stands, and 16 bytes past a multiple of 32 it takes up to
 # 1.4 times as long.
@@ -17,7 +17,7 @@ made() {
 python3 tools/prove.py moqresam harness
 for crate in moqresam harness; do
     archive=target/staticlib/lib$crate.a record=target/staticlib/$crate.made
-    if [ -f "$archive" ] && [ -f "$record" ] && [ "$(made "$crate")" = "$(cat "$record")" ]; then
+    if now=$(made "$crate" 2>/dev/null) && [ -f "$record" ] && [ "$now" = "$(cat "$record")" ]; then
         continue
     fi
     echo "building $archive, up to a minute" >&2

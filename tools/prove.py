@@ -54,7 +54,7 @@ class Progress:
     def look(self):
         """Says which crates rt has begun to prove since the last look."""
         ended = ENDED.findall(self.printed())
-        new = [crate for crate in self.crates if crate not in self.begun and changed_at(crate) != self.before[crate]]
+        new = [crate for crate in self.crates if crate not in self.begun and changed_at(crate) not in (None, self.before[crate])]
         for crate in sorted(new, key=changed_at):
             self.begun.add(crate)
             earlier = ended[: ended.index(crate)] if crate in ended else ended
