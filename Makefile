@@ -1,28 +1,30 @@
-# make test is the whole gate; make run prints document 01's run; make programs builds both programs; make archives builds what C links; make soak
-# compares with the independent implementation for longer; make bench measures beside plain Rust and plain C.
-.PHONY: test run programs archives soak bench
+# make run proves and runs the worked example; make quick is the short test of a change, make test the whole gate; make programs builds both programs,
+# make archives what C links; make soak compares with the independent implementation for longer; make bench measures beside plain Rust and plain C.
+# What is proved or built is said on standard error; what has not changed is not proved or built again, but by make test.
+.PHONY: test quick run programs archives built soak bench
+.NOTPARALLEL:
 
 test:
 	@bash tests/gate.sh
 
-# What the prover says is shown only if it fails.
+quick:
+	@bash tests/quick.sh
+
 run:
-	@log=$$(rt check sequencer 2>&1) || { echo "$$log"; exit 1; }
+	@python3 tools/prove.py sequencer
 	@cd examples/ref && ../../target/bin/sequencer
 
 programs:
-	@log=$$(rt check sequencer clashes 2>&1) || { echo "$$log"; exit 1; }
+	@python3 tools/prove.py sequencer clashes
 
 archives:
 	@bash tests/archives.sh
+
+# What soak and bench link and run.
+built: programs archives
 
 soak: built
 	@bash tests/reference.sh soak
 
 bench: built
 	@bash bench/run.sh
-
-# What soak and bench link and run.
-.PHONY: built
-built: programs
-	@bash tests/archives.sh
