@@ -1,20 +1,19 @@
 //! Table text: reading, lookup, writing and the program's report, the archive against the reference.
 
 use crate::cases::Cases;
-use crate::compare_readings::{archive_name, archived, compare_alone, compare_names, compare_together};
+use crate::compare_readings::{archived, compare_alone, compare_names, compare_together};
 use crate::lent::Lent;
 use crate::program::{self, Buffers, Room, PROGRAM};
 use crate::random::Random;
 use crate::random_tables::{damage, module_and_plan, sizes, table_of_text_length};
 use crate::random_texts::{borrowed, good_names, respelled, text_pair};
 use crate::reply::Reply;
-use crate::table::{has, members, Table, NO_STEP, SIGNALS};
+use crate::table::{has, members, Table, SIGNALS};
 use crate::tally::Tally;
-use crate::text::Rule;
 use crate::{archive, orders, places, spellings, writer};
 
 /// Room for the text of a sequencer with the six lines before it.
-const REPORT_BYTES: usize = 65_536 + 256;
+pub const REPORT_BYTES: usize = 65_536 + 256;
 
 pub fn run(cases: &Cases, tally: &mut Tally) {
     cases.run(tally, |r, tally| match r.below(20) {
@@ -33,18 +32,18 @@ pub fn run(cases: &Cases, tally: &mut Tally) {
 const RENAMED: &str = "written again, undeclared signals renamed";
 
 /// What the writer is given beside its buffer.
-struct Writing {
+pub struct Writing {
     table: Table,
     name: Vec<u8>,
     names: Vec<Vec<u8>>,
 }
 
 impl Writing {
-    fn parts(&self) -> (&Table, &[u8], Vec<&[u8]>) {
+    pub fn parts(&self) -> (&Table, &[u8], Vec<&[u8]>) {
         (&self.table, &self.name, borrowed(&self.names))
     }
 
-    fn shown(&self) -> String {
+    pub fn shown(&self) -> String {
         let names: Vec<String> = self.names.iter().map(|name| shown(name)).collect();
         format!("{:?}\n  {} {names:?}", self.table, shown(&self.name))
     }
@@ -74,7 +73,6 @@ fn compare_writing(tally: &mut Tally, r: &mut Random) {
     });
     if answer.number == 0 {
         let text = &actual.part()[..answer.value.min(room)];
-        tally.check(reads_again(table, &names, text), || format!("written and read again\n  {table:?}\n  {}", shown(text)));
         write_again(tally, r, &writing, &answer, text);
     }
 }
@@ -139,7 +137,7 @@ fn rename_undeclared(r: &mut Random, Writing { table, name, names }: &Writing) -
     Writing { table: table.clone(), name: name.clone(), names: renamed }
 }
 
-fn random_writing(r: &mut Random) -> Writing {
+pub fn random_writing(r: &mut Random) -> Writing {
     if r.percent(3) {
         let (table, spare) = table_of_text_length(r.pick(&[65_535, 65_536, 65_537, 66_000]));
         return Writing { table, name: vec![b'x'; spare + 1], names: (b'a'..=b'z').map(|letter| vec![letter]).collect() };
@@ -187,26 +185,6 @@ fn damage_names(r: &mut Random, names: &mut Vec<Vec<u8>>, declared: u32) {
         5..=8 => names[one] = respelled(r, &names[other]),
         _ => names.truncate(one),
     }
-}
-
-/// Whether the archive reads the text as the same table: states, first state, lists and steps, name for name.
-fn reads_again(table: &Table, names: &[&[u8]], text: &[u8]) -> bool {
-    let mut cells = vec![0; table.cells.len() + 5];
-    let reply = archive::read_alone(Rule::Folded, text, &mut cells);
-    let beyond = cells.split_off(table.cells.len());
-    let again = Table { states: reply.states, initial: reply.initial, inputs: reply.inputs, outputs: reply.outputs, cells };
-    let same_numbers = reply.number == 0 && again.states == table.states && again.initial == table.initial;
-    let same_count = again.signals().count_ones() == table.signals().count_ones();
-    let new_names: Vec<Vec<u8>> = members(again.signals()).map(|signal| archive_name(text, signal)).collect();
-    let same_signal = |signal: usize| {
-        let new = members(again.signals()).zip(&new_names).find(|(_, name)| name.as_slice() == names[signal]);
-        new.is_some_and(|(new, _)| {
-            has(table.inputs, signal) == has(again.inputs, new)
-                && has(table.outputs, signal) == has(again.outputs, new)
-                && (0..table.states).all(|state| table.step(state, signal) == again.step(state, new))
-        })
-    };
-    same_numbers && same_count && members(table.signals()).all(same_signal) && beyond.iter().all(|&cell| cell == NO_STEP)
 }
 
 fn compare_report(tally: &mut Tally, r: &mut Random) {

@@ -1,7 +1,7 @@
 //! Demand 3 by brute force: every sequencer of few states makes the module meet the plan exactly if it refines the table that the archive
 //! returns, and none does where the archive says that there is none.
 
-use crate::archive;
+use crate::answers::sequencer;
 use crate::cases::Cases;
 use crate::random::Random;
 use crate::random_tables::{module_and_plan, near};
@@ -101,11 +101,8 @@ fn try_sequencer(tally: &mut Tally, module: &Table, plan: &Table, sequencer: &Ta
 
 /// What the archive returns: the table that its reply and its buffer make, or none.
 fn returned_sequencer(module: &Table, plan: &Table) -> Option<Table> {
-    let pairs = module.states * plan.states;
-    let (mut cells, mut flags) = (vec![0; pairs * SIGNALS], vec![0; pairs]);
-    let reply = archive::synthesize(module, plan, &mut cells, &mut flags);
-    let table = Table { states: reply.states, initial: reply.initial, inputs: reply.inputs, outputs: reply.outputs, cells };
-    reply.yes.then_some(table)
+    let made = sequencer(module, plan);
+    made.reply.yes.then(|| made.table())
 }
 
 fn said(module: &Table, plan: &Table, sequencer: &Table, fault: &str) -> String {

@@ -19,6 +19,7 @@
 //!
 //! With CASE that one case is run alone. The last line is 'N passed, M failed', and the exit status says the same.
 
+mod answers;
 mod archive;
 mod bytes;
 mod calls;
@@ -36,11 +37,16 @@ mod orders;
 mod places;
 mod product;
 mod program;
+mod properties;
+mod properties_of_sequencers;
+mod properties_of_tables;
 mod random;
 mod random_tables;
 mod random_texts;
 mod reach;
+mod readback;
 mod refine;
+mod renumber;
 mod reply;
 mod run_program;
 mod selftest;
@@ -92,6 +98,8 @@ fn run(arguments: &[&str]) -> Option<bool> {
         ("flags", []) => compare_flags::run(&cases, &mut tally),
         ("ends", []) => compare_ends::run(&cases, &mut tally),
         ("substitution", []) => substitution::run(&cases, &mut tally),
+        ("readback", []) => readback::run(&cases, &mut tally),
+        ("properties", []) => properties::run(&cases, &mut tally),
         ("program", [folder, sequencer, clashes]) => {
             run_program::run(&cases, &mut tally, Path::new(folder), [Path::new(sequencer), Path::new(clashes)]);
         }

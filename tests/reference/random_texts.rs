@@ -85,6 +85,12 @@ pub fn text_pair(r: &mut Random) -> (Vec<u8>, Vec<u8>) {
     texts
 }
 
+/// Sound texts of two tables: no names clash.
+pub fn spelled_pair(r: &mut Random, module: &Table, plan: &Table) -> (Vec<u8>, Vec<u8>) {
+    let names = good_names(r);
+    (spelled(r, module, &names), spelled(r, plan, &names))
+}
+
 fn random_pair(r: &mut Random) -> (Table, Table) {
     if r.percent(2) {
         return busy_module_and_plan(r);
@@ -149,7 +155,7 @@ fn damage_byte(r: &mut Random, text: &mut Vec<u8>) {
     }
 }
 
-fn split(text: &[u8]) -> Vec<Vec<u8>> {
+pub fn split(text: &[u8]) -> Vec<Vec<u8>> {
     text.split_inclusive(|&byte| byte == b'\n').map(<[u8]>::to_vec).collect()
 }
 
