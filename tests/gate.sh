@@ -44,7 +44,6 @@ stage "contracts" python3 tests/contracts.py
 stage "contracts that are wrong" python3 tests/contracts_test.py
 stage "wrong programs that show nothing" python3 tests/wrong_programs_test.py
 stage "claims" python3 tests/claims.py
-stage "readings" python3 tests/readings.py
 counted "proofs" rt ci
 stage "edits" python3 tests/edits.py
 # The archives are built while the program is tried: neither needs the other.
@@ -55,7 +54,6 @@ archives_built() {
 }
 counted "cases" python3 tests/cases.py
 counted "cases under valgrind" python3 tests/cases.py valgrind -q --error-exitcode=9
-counted "examples" python3 tests/examples.py target/bin/sequencer
 stage "archives" archives_built
 counted "boundary" bash tests/boundary.sh
 counted "reference" bash tests/reference.sh

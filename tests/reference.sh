@@ -37,6 +37,7 @@ run() {
 echo "reference: seed $seed"
 try "comparison compiles" compile
 run selftest tests/cases tests/clash
+run examples examples "$work/run" target/bin/sequencer
 run tables "$seed" "$((100000 * times))"
 run texts "$seed" "$((25000 * times))"
 run demand3 "$seed" "$((5000 * times))"

@@ -249,10 +249,10 @@ fn random_state(r: &mut Random, table: &Table) -> usize {
 fn random_signal(r: &mut Random, table: &Table) -> usize {
     let declared: Vec<usize> = members(table.signals()).collect();
     match r.below(20) {
-        0 => r.pick(&[32, 33, 63, 64, 256, 1 << 32, (1 << 32) + 1, usize::MAX]),
-        1 => r.below(SIGNALS),
-        _ if declared.is_empty() => 31,
-        _ => r.pick(&declared),
+        0..=17 if declared.is_empty() => 31,
+        0..=17 => r.pick(&declared),
+        18 => r.below(SIGNALS),
+        _ => r.pick(&[32, 33, 63, 64, 256, 1 << 32, (1 << 32) + 1, usize::MAX]),
     }
 }
 

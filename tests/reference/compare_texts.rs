@@ -153,9 +153,9 @@ pub fn random_writing(r: &mut Random) -> Writing {
     let mut names = good_names(r);
     let mut name = r.pick(&names);
     match r.below(5) {
-        0 => damage_name(r, &mut name),
-        1 => name = respelled(r, &name),
-        _ => (),
+        0..=2 => (),
+        3 => name = respelled(r, &name),
+        _ => damage_name(r, &mut name),
     }
     for _ in 0..r.pick(&[0, 0, 1, 3]) {
         damage_names(r, &mut names, table.signals());
@@ -190,9 +190,9 @@ fn damage_names(r: &mut Random, names: &mut Vec<Vec<u8>>, declared: u32) {
 fn compare_report(tally: &mut Tally, r: &mut Random) {
     let (module, plan) = text_pair(r);
     let room = match r.below(10) {
-        0 => less_room(r),
-        1 => MORE_ROOM,
-        _ => PROGRAM,
+        0..=7 => PROGRAM,
+        8 => MORE_ROOM,
+        _ => less_room(r),
     };
     compare_report_of(tally, r, &module, &plan, &room);
 }

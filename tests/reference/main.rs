@@ -8,6 +8,10 @@
 //! `count_ends` and `mark_reached` do where the sizes do not agree; 10 where `report` is lent less than the program lends; that a report which is
 //! refused after the reading leaves its tables as a refused reading does; what `list` returns where it is lent too few bytes.
 //!
+//!     reference print FOLDER                                         what the program has to print in a folder with module.tab and plan.tab
+//!     reference list FOLDER                                          what the lister of clashes has to print there
+//!     reference examples EXAMPLES --write                            writes what is worked out in each example: tables that are made, stdout
+//!     reference examples EXAMPLES FOLDER SEQUENCER                   the examples, and the program, run in a scratch folder
 //!     reference selftest CASES CLASHES                               what was worked out by hand: folders of texts, situations
 //!     reference tables SEED COUNT [CASE]                             the calls on tables
 //!     reference texts SEED COUNT [CASE]                              reading, lookup, listing of clashes, writing, report
@@ -17,7 +21,7 @@
 //!     reference substitution SEED COUNT [CASE]                       a part in the place of the one that it refines: the archive alone
 //!     reference program SEED COUNT FOLDER SEQUENCER CLASHES [CASE]   the two programs, run in a scratch folder
 //!
-//! With CASE that one case is run alone. The last line is 'N passed, M failed', and the exit status says the same.
+//! With CASE that one case is run alone. But for `print` and `list`, the last line is 'N passed, M failed', and the exit status says the same.
 
 mod answers;
 mod archive;
@@ -30,6 +34,7 @@ mod compare_readings;
 mod compare_tables;
 mod compare_texts;
 mod demand3;
+mod examples;
 mod fit;
 mod lent;
 mod lister;
@@ -51,6 +56,7 @@ mod reply;
 mod run_program;
 mod selftest;
 mod situations;
+mod smaller;
 mod spellings;
 mod substitution;
 mod synth;
@@ -62,6 +68,7 @@ mod writer;
 
 use crate::cases::Cases;
 use crate::tally::Tally;
+use std::io::Write;
 use std::path::Path;
 use std::process::ExitCode;
 
@@ -72,7 +79,10 @@ fn main() -> ExitCode {
         Some(true) => ExitCode::SUCCESS,
         Some(false) => ExitCode::FAILURE,
         None => {
-            eprintln!("usage: reference selftest CASES CLASHES");
+            eprintln!("usage: reference print|list FOLDER");
+            eprintln!("       reference selftest CASES CLASHES");
+            eprintln!("       reference examples EXAMPLES FOLDER SEQUENCER");
+            eprintln!("       reference examples EXAMPLES --write");
             eprintln!("       reference tables|texts|demand3|flags|ends|substitution SEED COUNT [CASE]");
             eprintln!("       reference program SEED COUNT FOLDER SEQUENCER CLASHES [CASE]");
             ExitCode::from(2)
@@ -82,8 +92,13 @@ fn main() -> ExitCode {
 
 /// Whether all passed; nothing for arguments that make no sense.
 fn run(arguments: &[&str]) -> Option<bool> {
-    if let ["selftest", cases, clashes] = arguments {
-        return Some(selftest::run(Path::new(cases), Path::new(clashes)));
+    match arguments {
+        ["selftest", cases, clashes] => return Some(selftest::run(Path::new(cases), Path::new(clashes))),
+        ["examples", examples, "--write"] => return Some(examples::write_anew(Path::new(examples))),
+        ["examples", examples, folder, sequencer] => return Some(examples::run(Path::new(examples), Path::new(folder), Path::new(sequencer))),
+        ["print", folder] => return Some(print(program::print, Path::new(folder))),
+        ["list", folder] => return Some(print(lister::print, Path::new(folder))),
+        _ => (),
     }
     let [what, seed, count, rest @ ..] = arguments else { return None };
     let (seed, count): (u64, u64) = (seed.parse().ok()?, count.parse().ok()?);
@@ -106,6 +121,12 @@ fn run(arguments: &[&str]) -> Option<bool> {
         _ => return None,
     }
     Some(tally.finish())
+}
+
+/// Prints what a program has to print in a folder.
+fn print(print: fn(Option<&[u8]>, Option<&[u8]>) -> Vec<u8>, folder: &Path) -> bool {
+    let [module, plan] = selftest::files(folder);
+    std::io::stdout().write_all(&print(module.as_deref(), plan.as_deref())).is_ok()
 }
 
 /// The case that is asked for alone, if one is.

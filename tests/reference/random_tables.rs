@@ -31,14 +31,14 @@ pub fn sizes(r: &mut Random) -> Sizes {
     const LARGE: &[Sizes] = &[(64, 64), (4_096, 1), (1, 4_096), (32, 128), (2, 2_048), (1_365, 3)];
     const TOO_LARGE: &[Sizes] = &[(17, 241), (64, 65), (4_096, 2), (1_024, 1_024), (257, 255)];
     match r.below(1_000) {
-        0..=4 => r.pick(LARGE),
-        5..=9 => {
+        0..=939 => (r.between(1, 6), r.between(1, 6)),
+        940..=974 => (r.between(1, 24), r.between(1, 24)),
+        975..=989 => r.pick(TOO_LARGE),
+        990..=994 => {
             let first = r.between(1, 4_096);
             (first, r.between(1, 4_096 / first))
         }
-        10..=24 => r.pick(TOO_LARGE),
-        25..=59 => (r.between(1, 24), r.between(1, 24)),
-        _ => (r.between(1, 6), r.between(1, 6)),
+        _ => r.pick(LARGE),
     }
 }
 
@@ -115,9 +115,9 @@ fn sizes_of_three(r: &mut Random) -> (usize, usize, usize) {
     const LARGE: &[(usize, usize, usize)] = &[(8, 8, 8), (9, 8, 8), (16, 8, 8), (40, 20, 3), (64, 3, 64)];
     const TOO_LARGE: &[(usize, usize, usize)] = &[(64, 2, 65), (2_049, 2, 2), (1_366, 1, 3), (4, 65, 64), (2, 1_025, 4)];
     match r.below(1_000) {
-        0..=9 => r.pick(LARGE),
-        10..=19 => r.pick(TOO_LARGE),
-        _ => (r.between(1, 5), r.between(1, 4), r.between(1, 4)),
+        0..=979 => (r.between(1, 5), r.between(1, 4), r.between(1, 4)),
+        980..=989 => r.pick(TOO_LARGE),
+        _ => r.pick(LARGE),
     }
 }
 

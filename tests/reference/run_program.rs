@@ -94,13 +94,21 @@ fn compare(tally: &mut Tally, (module, plan): &(Content, Content), folder: &Path
         let expected = print(module.bytes(), plan.bytes());
         tally.saw(&format!("{name}: {}", said(&expected)));
         orders::record(tally, name, &expected);
-        let run = Command::new(path).current_dir(folder).stdin(Stdio::null()).output();
-        let right = |run: &std::process::Output| run.status.code() == Some(0) && run.stderr.is_empty() && run.stdout == expected;
-        tally.check(run.as_ref().is_ok_and(right), || {
-            let said = run.map_or_else(|error| error.to_string(), |run| format!("{}, {}, {}", run.status, shown(&run.stdout), shown(&run.stderr)));
+        let output = output_of(path, folder);
+        tally.check(output.as_ref() == Ok(&expected), || {
+            let said = output.map_or_else(|error| error, |output| shown(&output));
             format!("{name}\n  {}\n  {}\n  expected {}\n  is       {said}", module.shown(), plan.shown(), shown(&expected))
         });
     }
+}
+
+/// What a program prints in a folder, if it ends well and says nothing on standard error; else what became of it.
+pub fn output_of(program: &Path, folder: &Path) -> Result<Vec<u8>, String> {
+    let run = Command::new(program).current_dir(folder).stdin(Stdio::null()).output().map_err(|error| error.to_string())?;
+    if run.status.code() == Some(0) && run.stderr.is_empty() {
+        return Ok(run.stdout);
+    }
+    Err(format!("{}, {}, {}", run.status, shown(&run.stdout), shown(&run.stderr)))
 }
 
 /// What is printed, for the count of outcomes: of clashes how many lines there are, else a verdict or a refusal.

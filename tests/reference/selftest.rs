@@ -42,22 +42,29 @@ fn compare(tally: &mut Tally, folder: &Path, expected: &str, print: fn(Option<&[
     });
 }
 
-/// Holds the archive to the reference: each text alone, and the two together, by all calls that read texts. As many cells are lent as by the program.
+/// Holds the archive to the reference on the texts of a folder. What stands in the buffers before, and the bytes lent for a list, are drawn: three times,
+/// for a list to have enough of them.
 fn compare_calls(tally: &mut Tally, folder: &Path) {
-    let r = &mut Random::of_case(0, 0);
     let [module, plan] = files(folder);
-    tally.begin_case();
-    for text in [&module, &plan].into_iter().flatten() {
+    for case in 0..3 {
+        tally.begin_case();
+        compare_texts(tally, &mut Random::of_case(0, case), module.as_deref(), plan.as_deref());
+        if let Some(failure) = tally.end_case() {
+            println!("failed: selftest, {}: {}", folder.display(), failure.words);
+        }
+    }
+}
+
+/// Compares each text alone, and the two together, by all calls that read texts. As many cells are lent as by the program.
+fn compare_texts(tally: &mut Tally, r: &mut Random, module: Option<&[u8]>, plan: Option<&[u8]>) {
+    for text in [module, plan].into_iter().flatten() {
         compare_reading(tally, r, (text, PROGRAM.module_cells), None);
         compare_lookups(tally, r, text, None);
     }
     if let (Some(module), Some(plan)) = (module, plan) {
-        compare_reading(tally, r, (&module, PROGRAM.module_cells), Some((&plan, PROGRAM.plan_cells)));
-        compare_lookups(tally, r, &module, Some(&plan));
-        compare_report_of(tally, r, &module, &plan, &PROGRAM);
-    }
-    if let Some(failure) = tally.end_case() {
-        println!("failed: selftest, {}: {failure}", folder.display());
+        compare_reading(tally, r, (module, PROGRAM.module_cells), Some((plan, PROGRAM.plan_cells)));
+        compare_lookups(tally, r, module, Some(plan));
+        compare_report_of(tally, r, module, plan, &PROGRAM);
     }
 }
 
@@ -69,11 +76,11 @@ fn ask_for_all_outcomes(tally: &mut Tally) {
     }
 }
 
-/// The folders of cases; to have none is a failure.
-fn folders(tally: &mut Tally, cases: &Path) -> Vec<PathBuf> {
+/// The folders in a folder; to have none is a failure.
+pub fn folders(tally: &mut Tally, cases: &Path) -> Vec<PathBuf> {
     let entries = fs::read_dir(cases).into_iter().flatten().flatten();
     let mut folders: Vec<PathBuf> = entries.map(|entry| entry.path()).filter(|path| path.is_dir()).collect();
     folders.sort();
-    tally.check(!folders.is_empty(), || format!("selftest: no case in {}", cases.display()));
+    tally.check(!folders.is_empty(), || format!("no folder in {}", cases.display()));
     folders
 }

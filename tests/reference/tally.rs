@@ -1,29 +1,38 @@
 //! The count of what passed and failed, and how often each outcome occurred.
 
 use std::collections::BTreeMap;
+use std::panic::Location;
 
 #[derive(Default)]
 pub struct Tally {
     passed: u64,
     failed: u64,
     seen: BTreeMap<String, u64>,
-    /// Holds what is said of the first failure of the case that runs.
-    failure: Option<String>,
     in_case: bool,
+    /// Holds the first failure of the case that runs.
+    failure: Option<Failure>,
+}
+
+/// What is said of a failed check, and where the check stands: by that it is known again.
+pub struct Failure {
+    pub words: String,
+    pub place: &'static Location<'static>,
 }
 
 const MOST_SHOWN: u64 = 20;
 
 impl Tally {
     /// Counts one check. What it says of a failure is shown at once, for the first failures alone; within a case the driver shows it.
+    #[track_caller]
     pub fn check(&mut self, holds: bool, say: impl FnOnce() -> String) {
         if holds {
             self.passed += 1;
             return;
         }
         self.failed += 1;
+        let place = Location::caller();
         if self.in_case {
-            self.failure.get_or_insert_with(say);
+            self.failure.get_or_insert_with(|| Failure { words: say(), place });
         } else if self.failed <= MOST_SHOWN {
             println!("failed: {}", say());
         }
@@ -33,8 +42,8 @@ impl Tally {
         self.in_case = true;
     }
 
-    /// Ends the case; returns what is said of its first failure.
-    pub fn end_case(&mut self) -> Option<String> {
+    /// Ends the case; returns its first failure.
+    pub fn end_case(&mut self) -> Option<Failure> {
         self.in_case = false;
         self.failure.take()
     }

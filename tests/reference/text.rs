@@ -217,6 +217,14 @@ pub fn read_both(rule: Rule, module: &[u8], plan: &[u8], module_room: usize, pla
     Ok((module, plan, numbering.signals))
 }
 
+/// The tables of any texts, read in this order, with their common signals. There is room for every table.
+pub fn read_all(rule: Rule, texts: &[&[u8]]) -> Result<(Vec<Table>, Vec<Signal>), Reply> {
+    let mut numbering = Numbering::by(rule);
+    let tables: Result<Vec<Table>, Reply> =
+        texts.iter().zip(MODULE..).map(|(text, which)| read(text, which, MOST_STATES * SIGNALS, &mut numbering)).collect();
+    Ok((tables?, numbering.signals))
+}
+
 /// Lent cells beyond the table are 65,535.
 pub fn fill(cells: &mut [u16], table: Option<&Table>) {
     cells.fill(NO_STEP);
@@ -227,11 +235,7 @@ pub fn fill(cells: &mut [u16], table: Option<&Table>) {
 
 /// The name of a signal of two texts, or of one text alone; a refusal is a number and no name.
 pub fn name(rule: Rule, module: &[u8], plan: Option<&[u8]>, signal: usize) -> Result<Vec<u8>, u32> {
-    let mut numbering = Numbering::by(rule);
-    let enough = MOST_STATES * SIGNALS;
-    read(module, MODULE, enough, &mut numbering).map_err(|refusal| refusal.number)?;
-    if let Some(plan) = plan {
-        read(plan, PLAN, enough, &mut numbering).map_err(|refusal| refusal.number)?;
-    }
-    numbering.signals.get(signal).map(|signal| signal.name.clone()).ok_or(12)
+    let texts: Vec<&[u8]> = [module].into_iter().chain(plan).collect();
+    let (_, signals) = read_all(rule, &texts).map_err(|refusal| refusal.number)?;
+    signals.get(signal).map(|signal| signal.name.clone()).ok_or(12)
 }

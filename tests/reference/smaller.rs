@@ -1,0 +1,101 @@
+//! Makes a failed case smaller. A case is what it draws, so the list of its draws is made shorter, and the draws in it smaller, as long as the same check
+//! fails; where a shorter list is used up, the case draws 0.
+
+use crate::tally::Failure;
+use std::time::{Duration, Instant};
+
+/// Bounds the work on one case.
+const MOST_TRIES: u32 = 10_000;
+const MOST_TIME: Duration = Duration::from_secs(5);
+
+/// A case that fails, and all that it drew.
+pub struct Failing {
+    pub draws: Vec<u64>,
+    pub failure: Failure,
+}
+
+/// The smallest case found so far. `again` runs the case with other draws, and returns it if it fails.
+struct Search<A> {
+    best: Failing,
+    again: A,
+    tries: u32,
+    start: Instant,
+}
+
+/// Returns the smallest case that was found to fail in the same check: the given one where there is none smaller.
+pub fn smallest(failing: Failing, again: impl FnMut(Vec<u64>) -> Option<Failing>) -> Failing {
+    let mut search = Search { best: failing, again, tries: 0, start: Instant::now() };
+    while search.pass() {}
+    search.best
+}
+
+impl<A: FnMut(Vec<u64>) -> Option<Failing>> Search<A> {
+    /// Tries all ways to make the list smaller; says whether one of them did and there is time for a further pass.
+    fn pass(&mut self) -> bool {
+        let before = self.best.draws.clone();
+        self.replace_blocks(|_| Vec::new());
+        self.replace_blocks(|length| vec![0; length]);
+        for place in 0..before.len() {
+            self.lower(place);
+        }
+        self.best.draws != before && !self.is_over()
+    }
+
+    fn is_over(&self) -> bool {
+        self.tries >= MOST_TRIES || self.start.elapsed() >= MOST_TIME
+    }
+
+    /// Replaces blocks of draws, long ones first and those of one length from the last to the first.
+    fn replace_blocks(&mut self, replacement: fn(usize) -> Vec<u64>) {
+        let mut length = self.best.draws.len();
+        while length > 0 {
+            self.replace_blocks_of(length, replacement);
+            length /= 2;
+        }
+    }
+
+    fn replace_blocks_of(&mut self, length: usize, replacement: fn(usize) -> Vec<u64>) {
+        let mut end = self.best.draws.len();
+        while end > 0 {
+            let start = end.saturating_sub(length);
+            let mut draws = self.best.draws.clone();
+            draws.splice(start..end, replacement(end - start));
+            self.keep(draws);
+            end = start.min(self.best.draws.len());
+        }
+    }
+
+    /// Makes one draw as small as it can be: 0, or else the least that halving finds.
+    fn lower(&mut self, place: usize) {
+        let mut too_small = None;
+        while let Some(&draw) = self.best.draws.get(place) {
+            let least = too_small.map_or(0, |small| small + 1);
+            if draw <= least || self.is_over() {
+                return;
+            }
+            let tried = if too_small.is_none() { 0 } else { least + (draw - least) / 2 };
+            let mut draws = self.best.draws.clone();
+            draws[place] = tried;
+            if !self.keep(draws) {
+                too_small = Some(tried);
+            }
+        }
+    }
+
+    /// Runs the case with this list, and keeps it if the same check fails and the list that is then drawn is smaller. Says whether it is.
+    fn keep(&mut self, draws: Vec<u64>) -> bool {
+        if self.is_over() || !is_smaller(&draws, &self.best.draws) {
+            return false;
+        }
+        self.tries += 1;
+        let fails_alike = |found: &Failing| found.failure.place == self.best.failure.place && is_smaller(&found.draws, &self.best.draws);
+        let Some(found) = (self.again)(draws).filter(fails_alike) else { return false };
+        self.best = found;
+        true
+    }
+}
+
+/// A shorter list is smaller; of two equally long ones it is the one with the smaller first difference.
+fn is_smaller(one: &[u64], other: &[u64]) -> bool {
+    (one.len(), one) < (other.len(), other)
+}
