@@ -1,4 +1,5 @@
-//! The one driver of all random comparisons: it runs case after case, or one of them alone, and shows those that fail, the first of them made smaller.
+//! The one driver of all random comparisons: it runs case after case, or one of them alone, names those that fail, and shows the smallest cases that it
+//! finds from them.
 
 use crate::random::Random;
 use crate::smaller::{smallest, Failing};
@@ -6,9 +7,9 @@ use crate::tally::Tally;
 use std::cell::RefCell;
 use std::panic::{catch_unwind, set_hook, take_hook, AssertUnwindSafe};
 
-/// How many failing cases of a run are made smaller, which takes seconds, and how many are named.
-const MOST_MADE_SMALLER: u64 = 3;
-const MOST_NAMED: u64 = 20;
+/// How many failing cases of a run are named and made smaller, and of how many checks that fail a case is shown.
+const MOST_NAMED: usize = 8;
+const MOST_SHOWN: usize = 3;
 
 /// How many cases a comparison takes, and by which seed. `only` asks for one case alone.
 pub struct Cases<'a> {
@@ -23,13 +24,15 @@ impl Cases<'_> {
     pub fn run(&self, tally: &mut Tally, mut case: impl FnMut(&mut Random, &mut Tally)) {
         let hook = take_hook();
         set_hook(Box::new(|panic| PANIC.set(panic.to_string())));
-        let mut failures = 0;
+        let mut failed = Vec::new();
         for number in self.only.map_or(0..self.count, |number| number..number + 1) {
-            if let Some(failing) = failing(Random::of_case(self.seed, number), tally, &mut case) {
-                failures += 1;
-                self.show(number, failures, failing, &mut case);
+            let failing = failing(Random::of_case(self.seed, number), tally, &mut case);
+            if let Some(failing) = failing.filter(|_| failed.len() < MOST_NAMED) {
+                self.name(number, &failing);
+                failed.push((number, failing));
             }
         }
+        show_smallest(failed, &mut case);
         set_hook(hook);
     }
 
@@ -38,19 +41,32 @@ impl Cases<'_> {
         self.only.is_none() && self.count >= count
     }
 
-    /// Shows a failed case: how to run it again, and the smallest case that was found from it. The case itself is shown where it runs alone.
-    fn show(&self, number: u64, failures: u64, failing: Failing, case: &mut impl FnMut(&mut Random, &mut Tally)) {
-        if failures <= MOST_NAMED {
-            let Cases { what, seed, .. } = self;
-            println!("failed: {what}, seed {seed}, case {number}; run again: tests/reference.sh {what} {seed} {number}");
-        }
+    /// Says how to run a failed case again; one that runs alone is shown as it is.
+    fn name(&self, number: u64, failing: &Failing) {
+        let Cases { what, seed, .. } = self;
+        println!("failed: {what}, seed {seed}, case {number}; run again: tests/reference.sh {what} {seed} {number}");
         if self.only.is_some() {
             println!("  {}", failing.failure.words);
         }
-        if failures <= MOST_MADE_SMALLER {
-            let again = |draws| self::failing(Random::of_draws(draws, number), &mut Tally::default(), case);
-            println!("  made smaller: {}", smallest(failing, again).failure.words);
-        }
+    }
+}
+
+/// Makes the failed cases smaller, and shows one for each check that fails: the one of fewest words.
+fn show_smallest(failed: Vec<(u64, Failing)>, case: &mut impl FnMut(&mut Random, &mut Tally)) {
+    let mut shown = Vec::new();
+    for (number, failing) in failed {
+        let smaller = smallest(failing, |draws| self::failing(Random::of_draws(draws), &mut Tally::default(), case));
+        shown.push((smaller.failure.words.len(), number, smaller.failure));
+    }
+    shown.sort_by_key(|&(length, number, _)| (length, number));
+    let mut places = Vec::new();
+    shown.retain(|(_, _, failure)| {
+        let is_new = !places.contains(&failure.place);
+        places.push(failure.place);
+        is_new
+    });
+    for (_, number, failure) in shown.iter().take(MOST_SHOWN) {
+        println!("case {number} made smaller: {}", failure.words);
     }
 }
 

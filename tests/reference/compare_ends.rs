@@ -50,10 +50,10 @@ impl Case {
 
 pub fn run(cases: &Cases, tally: &mut Tally) {
     cases.run(tally, |r, tally| {
-        let is_longest = r.case() < LONGEST;
-        let case = if is_longest { longest_case(r) } else { random_case(r) };
+        let kind = r.kind_of_first_cases(2 * LONGEST_STATES.len());
+        let case = if kind == 0 { random_case(r) } else { longest_case(r, kind - 1) };
         // To say what can be said of the longest would take the reference seconds.
-        if !is_longest {
+        if kind == 0 {
             ways::record_ends(tally, case.origin, &case.table, &case.flags);
             ways::record_marks(tally, case.origin, &case.table, case.marks.len(), &case.sets);
         }
@@ -210,13 +210,9 @@ fn damage(r: &mut Random, case: &mut Case) {
 
 const LONGEST_STATES: [usize; 3] = [64, 65, MOST_STATES];
 
-/// How many of the first cases are the longest: a way and a full table for each number of states.
-const LONGEST: u64 = 2 * LONGEST_STATES.len() as u64;
-
-/// Takes the most that a search can have before it: a way through all states, in any order; or a step in every cell.
-fn longest_case(r: &mut Random) -> Case {
-    let number = r.case() as usize;
-    let states = LONGEST_STATES[number / 2];
+/// Takes the most that a search can have before it, twice for each number of states: a way through all states, in any order; and a step in every cell.
+fn longest_case(r: &mut Random, number: usize) -> Case {
+    let states = 1 + r.given(LONGEST_STATES[number / 2] - 1, MOST_STATES - 1);
     let table = if number % 2 == 0 { longest_way(r, states) } else { full_table(r, states) };
     Case { origin: ANY, table, flags: vec![1; states], marks: Lent::arbitrary(r, states), sets: vec![u32::MAX; states] }
 }

@@ -6,7 +6,7 @@ use crate::lent::Lent;
 use crate::random::Random;
 use crate::random_tables::{chain, chain_allowed, damage, meeting_tables, module_and_plan, refining_tables, sizes};
 use crate::reply::Reply;
-use crate::table::{members, Fault, Table, NO_STEP, SIGNALS};
+use crate::table::{members, Fault, Table, MOST_STATES, NO_STEP, SIGNALS};
 use crate::tally::Tally;
 use crate::{archive, calls, places};
 
@@ -82,7 +82,13 @@ impl Case {
 
 /// Runs the cases, and then asks that everything that can occur did.
 pub fn run(cases: &Cases, tally: &mut Tally) {
-    cases.run(tally, |r, tally| compare(tally, if r.case() < CHAINS { chain_case(r) } else { random_case(r) }));
+    cases.run(tally, |r, tally| {
+        let case = match r.kind_of_first_cases(CHAIN_CALLS.len() * CHAIN_LENGTHS.len()) {
+            0 => random_case(r),
+            kind => chain_case(r, kind - 1),
+        };
+        compare(tally, case);
+    });
     if cases.are_at_least(20_000) {
         ask_for_all_outcomes(tally);
     }
@@ -278,13 +284,10 @@ fn random_bytes(r: &mut Random, table: &Table, faults: usize) -> Vec<u8> {
 const CHAIN_CALLS: [Call; 5] = [Fit, Compose, CFit, Refine, CRefine];
 const CHAIN_LENGTHS: [usize; 4] = [2, 17, 1_024, 4_096];
 
-/// How many of the first cases are chains: each length with each call.
-const CHAINS: u64 = (CHAIN_CALLS.len() * CHAIN_LENGTHS.len()) as u64;
-
-/// Takes the longest fixpoints there are: as many rounds as pairs.
-fn chain_case(r: &mut Random) -> Case {
-    let number = r.case() as usize;
-    let (call, length) = (CHAIN_CALLS[number % CHAIN_CALLS.len()], CHAIN_LENGTHS[number / CHAIN_CALLS.len()]);
+/// Takes the longest fixpoints there are: as many rounds as pairs. The numbers are those of each length with each call.
+fn chain_case(r: &mut Random, number: usize) -> Case {
+    let call = CHAIN_CALLS[number % CHAIN_CALLS.len()];
+    let length = 1 + r.given(CHAIN_LENGTHS[number / CHAIN_CALLS.len()] - 1, MOST_STATES - 1);
     let (a, taker) = chain(length);
     let b = if matches!(call, Refine | CRefine) { chain_allowed() } else { taker };
     let (cells, flags) = (Lent::arbitrary(r, length * SIGNALS), Lent::arbitrary(r, length));

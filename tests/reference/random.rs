@@ -4,28 +4,23 @@
 pub struct Random {
     source: Source,
     draws: Vec<u64>,
-    case: u64,
 }
 
 enum Source {
-    Seeded(u64),
-    Listed(Vec<u64>),
+    Case { number: u64, state: u64 },
+    List(Vec<u64>),
 }
 
 impl Random {
     /// The stream of one case. The numbers are spread first: neighbouring cases must not look alike.
     pub fn of_case(seed: u64, case: u64) -> Random {
-        Random { source: Source::Seeded(spread(seed ^ spread(case)) | 1), draws: Vec::new(), case }
+        let state = spread(seed ^ spread(case)) | 1;
+        Random { source: Source::Case { number: case, state }, draws: Vec::new() }
     }
 
     /// Draws from the list, and 0 when it is used up.
-    pub fn of_draws(draws: Vec<u64>, case: u64) -> Random {
-        Random { source: Source::Listed(draws), draws: Vec::new(), case }
-    }
-
-    /// The number of the case, by which the first cases may be chosen.
-    pub fn case(&self) -> u64 {
-        self.case
+    pub fn of_draws(draws: Vec<u64>) -> Random {
+        Random { source: Source::List(draws), draws: Vec::new() }
     }
 
     /// All that was drawn, without zeros at the end: drawn again from this list, the case is the same.
@@ -38,10 +33,30 @@ impl Random {
     /// Every draw passes here and is kept. Where a case can choose, 0 should be the plainest choice: a smaller case has smaller draws.
     pub fn below(&mut self, bound: usize) -> usize {
         let number = match &mut self.source {
-            Source::Seeded(state) => next(state),
-            Source::Listed(draws) => draws.get(self.draws.len()).copied().unwrap_or(0),
+            Source::Case { state, .. } => next(state),
+            Source::List(draws) => draws.get(self.draws.len()).copied().unwrap_or(0),
         };
-        let draw = number % bound as u64;
+        self.keep(number % bound as u64)
+    }
+
+    /// Takes a number up to `most` that is not left to chance; it is kept as a draw, so that a smaller case may have a smaller one.
+    pub fn given(&mut self, number: usize, most: usize) -> usize {
+        match self.source {
+            Source::Case { .. } => self.keep(number as u64),
+            Source::List(_) => self.below(most + 1),
+        }
+    }
+
+    /// Gives the first cases so many kinds, one each: 1 to the first case, 2 to the second; then 0, which is for any kind.
+    pub fn kind_of_first_cases(&mut self, kinds: usize) -> usize {
+        let kind = match self.source {
+            Source::Case { number, .. } if number < kinds as u64 => number as usize + 1,
+            _ => 0,
+        };
+        self.given(kind, kinds)
+    }
+
+    fn keep(&mut self, draw: u64) -> usize {
         self.draws.push(draw);
         draw as usize
     }

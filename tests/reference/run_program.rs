@@ -139,26 +139,27 @@ fn ask_for_all_outcomes(tally: &mut Tally) {
 
 /// The first cases are files that can't be read and files at the limit, in both places; the rest are random.
 fn random_files(r: &mut Random) -> (Content, Content) {
+    let kind = r.kind_of_first_cases(17);
     let (module, plan) = text_pair(r);
     let (module, plan) = (Bytes(module), Bytes(plan));
-    match r.case() {
-        0 => (Missing, plan),
-        1 => (module, Missing),
-        2 => (Missing, Missing),
-        3 => (Folder, plan),
-        4 => (module, Folder),
-        5 => (Folder, Missing),
-        6 => (Bytes(b"no table".to_vec()), Missing),
-        7 => (Bytes(text_of_length(65_536)), plan),
-        8 => (Bytes(text_of_length(65_537)), plan),
-        9 => (Bytes(b"table\tone\t1\t0\n".to_vec()), Bytes(text_of_length(65_536))),
-        10 => (Bytes(b"table\tone\t1\t0\n".to_vec()), Bytes(text_of_length(65_537))),
-        11 => (Bytes(Vec::new()), plan),
-        12 => (module, Bytes(Vec::new())),
-        13 => (of_states(1_025), plan),
-        14 => (of_states(1_024), of_states(1_025)),
-        15 => (of_states(1_024), of_states(1_024)),
-        16 => (of_states(41), of_states(25)),
+    match kind {
+        1 => (Missing, plan),
+        2 => (module, Missing),
+        3 => (Missing, Missing),
+        4 => (Folder, plan),
+        5 => (module, Folder),
+        6 => (Folder, Missing),
+        7 => (Bytes(b"no table".to_vec()), Missing),
+        8 => (Bytes(text_of_length(65_536)), plan),
+        9 => (Bytes(text_of_length(65_537)), plan),
+        10 => (of_states(1), Bytes(text_of_length(65_536))),
+        11 => (of_states(1), Bytes(text_of_length(65_537))),
+        12 => (Bytes(Vec::new()), plan),
+        13 => (module, Bytes(Vec::new())),
+        14 => (of_states(1_025), plan),
+        15 => (of_states(1_024), of_states(1_025)),
+        16 => (of_states(1_024), of_states(1_024)),
+        17 => (of_states(41), of_states(25)),
         _ => (module, plan),
     }
 }

@@ -2,11 +2,12 @@
 //! fails; where a shorter list is used up, the case draws 0.
 
 use crate::tally::Failure;
+use std::ops::Range;
 use std::time::{Duration, Instant};
 
 /// Bounds the work on one case.
-const MOST_TRIES: u32 = 10_000;
-const MOST_TIME: Duration = Duration::from_secs(5);
+const MOST_TRIES: u32 = 20_000;
+const MOST_TIME: Duration = Duration::from_secs(2);
 
 /// A case that fails, and all that it drew.
 pub struct Failing {
@@ -35,8 +36,9 @@ impl<A: FnMut(Vec<u64>) -> Option<Failing>> Search<A> {
         let before = self.best.draws.clone();
         self.replace_blocks(|_| Vec::new());
         self.replace_blocks(|length| vec![0; length]);
-        for place in 0..before.len() {
-            self.lower(place);
+        (0..before.len()).for_each(|place| self.lower(place));
+        if self.best.draws == before {
+            (0..before.len()).for_each(|place| self.lower_and_drop(place));
         }
         self.best.draws != before && !self.is_over()
     }
@@ -80,6 +82,27 @@ impl<A: FnMut(Vec<u64>) -> Option<Failing>> Search<A> {
                 too_small = Some(tried);
             }
         }
+    }
+
+    /// Makes one draw smaller and drops a block behind it: a draw may say how many others follow.
+    fn lower_and_drop(&mut self, place: usize) {
+        let count = self.best.draws.len();
+        let lengths = (0..).map(|power| 1 << power).take_while(|&length| length < count);
+        let blocks = lengths.flat_map(|length| (place + 1..count).map(move |start| start..start + length));
+        for block in blocks.filter(|block| block.end <= count) {
+            let Some(&draw) = self.best.draws.get(place) else { return };
+            let smaller = [0, draw / 2, draw.saturating_sub(1)];
+            if self.best.draws.len() < count || draw == 0 || smaller.iter().any(|&to| self.keep_without(place, to, block.clone())) {
+                return;
+            }
+        }
+    }
+
+    fn keep_without(&mut self, place: usize, to: u64, block: Range<usize>) -> bool {
+        let mut draws = self.best.draws.clone();
+        draws[place] = to;
+        draws.drain(block);
+        self.keep(draws)
     }
 
     /// Runs the case with this list, and keeps it if the same check fails and the list that is then drawn is smaller. Says whether it is.
