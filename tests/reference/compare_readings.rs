@@ -121,7 +121,7 @@ pub fn compare_reading(tally: &mut Tally, r: &mut Random, (module, room): (&[u8]
 }
 
 /// Cells to lend: mostly as many as the text's first line seems to ask for, else fewer or more.
-fn room_to_lend(r: &mut Random, text: &[u8]) -> usize {
+pub fn room_to_lend(r: &mut Random, text: &[u8]) -> usize {
     let field = text.split(|&byte| byte == b'\t').nth(2).unwrap_or(b"");
     let states: usize = std::str::from_utf8(field).ok().and_then(|digits| digits.parse().ok()).unwrap_or(0);
     let asked = states.clamp(1, 4_097) * SIGNALS;

@@ -218,7 +218,7 @@ pub fn compare_report_of(tally: &mut Tally, r: &mut Random, module: &[u8], plan:
 const MORE_ROOM: Room = Room { module_cells: 131_072, plan_cells: 131_072, cells: 131_072, flags: 4_096 };
 
 /// Room for small tables, or hardly for them: where it is too little, 10 names the module, the plan or the result.
-fn less_room(r: &mut Random) -> Room {
+pub fn less_room(r: &mut Random) -> Room {
     let states = [1, 2, 3, 4, 5, 6].map(|states| states * SIGNALS);
     let (module_cells, plan_cells) = (r.pick(&states), r.pick(&states));
     let pairs = r.between(1, 36);

@@ -38,6 +38,7 @@ mod examples;
 mod fit;
 mod lent;
 mod lister;
+mod mutations;
 mod orders;
 mod places;
 mod product;
@@ -67,6 +68,7 @@ mod ways;
 mod writer;
 
 use crate::cases::Cases;
+use crate::run_program::Runs;
 use crate::tally::Tally;
 use std::io::Write;
 use std::path::Path;
@@ -102,7 +104,12 @@ fn run(arguments: &[&str]) -> Option<bool> {
     }
     let [what, seed, count, rest @ ..] = arguments else { return None };
     let (seed, count): (u64, u64) = (seed.parse().ok()?, count.parse().ok()?);
-    let (paths, only) = rest.split_at(if *what == "program" { rest.len().min(3) } else { 0 });
+    let paths = match *what {
+        "program" => 3,
+        "mutations" => 5,
+        _ => 0,
+    };
+    let (paths, only) = rest.split_at_checked(paths)?;
     let cases = Cases { what, seed, count, only: one(only)? };
     let mut tally = Tally::default();
     println!("{what}, seed {seed}");
@@ -116,7 +123,14 @@ fn run(arguments: &[&str]) -> Option<bool> {
         ("readback", []) => readback::run(&cases, &mut tally),
         ("properties", []) => properties::run(&cases, &mut tally),
         ("program", [folder, sequencer, clashes]) => {
-            run_program::run(&cases, &mut tally, Path::new(folder), [Path::new(sequencer), Path::new(clashes)]);
+            if let Some(runs) = Runs::prepare(&mut tally, Path::new(folder), [sequencer, clashes].map(Path::new)) {
+                run_program::run(&cases, &mut tally, &runs);
+            }
+        }
+        ("mutations", [texts, clash_texts, folder, sequencer, clashes]) => {
+            if let Some(runs) = Runs::prepare(&mut tally, Path::new(folder), [sequencer, clashes].map(Path::new)) {
+                mutations::run(&cases, &mut tally, [texts, clash_texts].map(Path::new), &runs);
+            }
         }
         _ => return None,
     }

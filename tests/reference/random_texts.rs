@@ -143,7 +143,7 @@ fn damage(r: &mut Random, text: &mut Vec<u8>) {
     }
 }
 
-fn damage_byte(r: &mut Random, text: &mut Vec<u8>) {
+pub fn damage_byte(r: &mut Random, text: &mut Vec<u8>) {
     if text.is_empty() {
         return;
     }
@@ -160,7 +160,7 @@ pub fn split(text: &[u8]) -> Vec<Vec<u8>> {
 }
 
 /// A line is dropped, doubled, exchanged with another, or comes again at the end with another last field: a step with another target.
-fn damage_lines(r: &mut Random, text: &mut Vec<u8>) {
+pub fn damage_lines(r: &mut Random, text: &mut Vec<u8>) {
     let mut lines = split(text);
     if lines.is_empty() {
         return;
@@ -219,7 +219,7 @@ fn damage_field_count(r: &mut Random, text: &mut Vec<u8>) {
 }
 
 /// Edits the fields of one line, often of the first; its LF stays.
-fn edit_fields(r: &mut Random, text: &mut Vec<u8>, edit: impl Fn(&mut Random, &mut Vec<Vec<u8>>)) {
+pub fn edit_fields(r: &mut Random, text: &mut Vec<u8>, edit: impl Fn(&mut Random, &mut Vec<Vec<u8>>)) {
     let mut lines = split(text);
     if lines.is_empty() {
         return;
@@ -233,7 +233,7 @@ fn edit_fields(r: &mut Random, text: &mut Vec<u8>, edit: impl Fn(&mut Random, &m
 }
 
 /// CR before LF, on one line or on all.
-fn return_carriages(r: &mut Random, text: &mut Vec<u8>) {
+pub fn return_carriages(r: &mut Random, text: &mut Vec<u8>) {
     let mut lines = split(text);
     let all = r.percent(50);
     let one = r.below(lines.len().max(1));
@@ -289,7 +289,7 @@ fn declare_again(r: &mut Random, text: &mut Vec<u8>) {
 }
 
 /// The name in one line gets another spelling: a declaration's, so that its steps are left behind, or a step's, or the table's.
-fn respell_line(r: &mut Random, text: &mut Vec<u8>) {
+pub fn respell_line(r: &mut Random, text: &mut Vec<u8>) {
     edit_fields(r, text, |r, fields| {
         if let Some(name) = fields.iter_mut().skip(1).rfind(|field| field.iter().any(u8::is_ascii_alphabetic)) {
             *name = respelled(r, name);
@@ -312,7 +312,7 @@ fn crowd(r: &mut Random, module: &mut Vec<u8>, plan: &mut Vec<u8>) {
 }
 
 /// The text grows to its limit, or one byte beyond it, by repeating its end.
-fn lengthen(r: &mut Random, text: &mut Vec<u8>) {
+pub fn lengthen(r: &mut Random, text: &mut Vec<u8>) {
     let length = r.pick(&[65_536, 65_537, 65_538, 70_000, 131_072]);
     let filler: &[u8] = r.pick(&[&b"step\t0\ta\t0\n"[..], b"\n", b"x", b"\0"]);
     while text.len() < length {
