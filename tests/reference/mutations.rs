@@ -118,7 +118,7 @@ fn replace_tab(r: &mut Random, text: &mut Vec<u8>) {
     }
 }
 
-/// A line of the other text comes in, mostly a declaration or a step in its place.
+/// A line of the other text comes in, at any place.
 fn take_line(r: &mut Random, text: &mut Vec<u8>, other: &[u8]) {
     let (mut lines, others) = (split(text), split(other));
     if !others.is_empty() {
@@ -128,8 +128,8 @@ fn take_line(r: &mut Random, text: &mut Vec<u8>, other: &[u8]) {
     }
 }
 
-/// Reads one text alone and the two together, looks up, lists and reports. All lookups of texts that are taken, and the programs, take a while:
-/// they are for some of the cases.
+/// Reads one text alone and the two together, looks up names, lists clashes and reports. Not every case does all of it: to look up all names of a
+/// sound text takes a while, and so do the programs.
 fn compare(r: &mut Random, tally: &mut Tally, texts: &Texts, runs: &Runs) {
     let [module, plan] = texts;
     let rooms = [room_to_lend(r, module), room_to_lend(r, plan)];
@@ -139,6 +139,9 @@ fn compare(r: &mut Random, tally: &mut Tally, texts: &Texts, runs: &Runs) {
     let is_sound = is_sound(texts);
     if !is_sound || r.percent(2) {
         compare_lookups(tally, r, module, Some(plan));
+    }
+    if r.percent(3) {
+        compare_lookups(tally, r, alone, None);
     }
     if !is_sound || r.percent(30) {
         let room = if r.percent(10) { less_room(r) } else { PROGRAM };
