@@ -68,13 +68,13 @@ pub fn run(cases: &Cases, tally: &mut Tally, folder: &Path, programs: [&Path; 2]
     let Ok(programs) = prepare(folder, programs) else {
         return tally.check(false, || format!("program: no folder {} or no program among {programs:?}", folder.display()));
     };
+    if cases.are_at_least(30) {
+        ask_for_all_outcomes(tally);
+    }
     cases.run(tally, |r, tally| compare(tally, &random_files(r), folder, &programs));
     for name in ["module.tab", "plan.tab"] {
         let removed = clear(&folder.join(name));
         tally.check(removed.is_ok(), || format!("program: {name} cannot be removed"));
-    }
-    if cases.are_at_least(200) {
-        ask_for_all_outcomes(tally);
     }
 }
 

@@ -41,14 +41,14 @@ struct Composition {
 }
 
 pub fn run(cases: &Cases, tally: &mut Tally) {
+    if cases.are_at_least(1_000) {
+        ask_for_outcomes(tally, cases.count);
+    }
     cases.run(tally, |r, tally| {
         let case = random_case(r);
         let fault = try_order(tally, &case).or(try_substitution(tally, &case)).or(try_swap(tally, &case));
         tally.check(fault.is_none(), || format!("{}\n  {case:?}", fault.unwrap_or_default()));
     });
-    if cases.are_at_least(1) {
-        ask_for_outcomes(tally, cases.count);
-    }
 }
 
 /// Half of the cases are drawn again, 49 times at most, until the composition of Y with Z drops pairs and moves; few do by chance.
