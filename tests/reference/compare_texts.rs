@@ -6,7 +6,7 @@ use crate::lent::Lent;
 use crate::program::{self, Buffers, Room, PROGRAM};
 use crate::random::Random;
 use crate::random_tables::{damage, module_and_plan, sizes, table_of_text_length};
-use crate::random_texts::{borrowed, good_names, respelled, text_pair};
+use crate::random_texts::{borrowed, busy_texts, good_names, respelled, text_pair};
 use crate::reply::Reply;
 use crate::table::{has, members, Table, SIGNALS};
 use crate::tally::Tally;
@@ -16,16 +16,16 @@ use crate::{archive, orders, places, spellings, writer};
 pub const REPORT_BYTES: usize = 65_536 + 256;
 
 pub fn run(cases: &Cases, tally: &mut Tally) {
-    cases.run(tally, |r, tally| match r.below(20) {
-        0..=5 => compare_alone(tally, r),
-        6..=11 => compare_together(tally, r),
-        12 => compare_names(tally, r),
-        13..=16 => compare_writing(tally, r),
-        _ => compare_report(tally, r),
-    });
-    if cases.are_at_least(20_000) {
+    if cases.are_at_least(1_000) {
         ask_for_all_outcomes(tally);
     }
+    cases.run(tally, |r, tally| match r.below(23) {
+        0..=5 => compare_alone(tally, r),
+        6..=11 => compare_together(tally, r),
+        12..=13 => compare_names(tally, r),
+        14..=17 => compare_writing(tally, r),
+        _ => compare_report(tally, r),
+    });
 }
 
 /// The outcome of a second writing where the name of an undeclared signal is another, or missing.
@@ -147,7 +147,7 @@ pub fn random_writing(r: &mut Random) -> Writing {
     if r.percent(50) {
         table = other;
     }
-    if r.percent(15) {
+    if r.percent(20) {
         damage(r, &mut table);
     }
     let mut names = good_names(r);
@@ -188,10 +188,10 @@ fn damage_names(r: &mut Random, names: &mut Vec<Vec<u8>>, declared: u32) {
 }
 
 fn compare_report(tally: &mut Tally, r: &mut Random) {
-    let (module, plan) = text_pair(r);
-    let room = match r.below(10) {
-        0..=7 => PROGRAM,
-        8 => MORE_ROOM,
+    let (module, plan) = if r.percent(3) { busy_texts(r) } else { text_pair(r) };
+    let room = match r.below(12) {
+        0..=8 => PROGRAM,
+        9 => MORE_ROOM,
         _ => less_room(r),
     };
     compare_report_of(tally, r, &module, &plan, &room);

@@ -18,6 +18,7 @@ const MISS: &str = "sequencers that do not";
 
 pub fn run(cases: &Cases, tally: &mut Tally) {
     if cases.are_at_least(1) {
+        [MEET, MISS, "pairs with a sequencer", "pairs with none"].iter().for_each(|outcome| tally.must_have_seen(outcome));
         try_all(tally, 0b01, 3);
         try_all(tally, 0b11, 2);
     }
@@ -27,9 +28,6 @@ pub fn run(cases: &Cases, tally: &mut Tally) {
         let (module, plan) = random_pair(r, 6, |_| true);
         try_larger(tally, r, &module, &plan);
     });
-    if cases.are_at_least(1) {
-        [MEET, MISS, "pairs with a sequencer", "pairs with none"].iter().for_each(|outcome| tally.must_have_seen(outcome));
-    }
 }
 
 /// Draws a module and a plan that check 8 accepts. Two drawings in five do not suit; that none of so many does cannot be told from never.

@@ -28,6 +28,9 @@ pub fn run(cases: &Cases, tally: &mut Tally, hand_written: [&Path; 2], runs: &Ru
     if sound.is_empty() {
         return;
     }
+    if cases.are_at_least(1_000) {
+        ask_for_all_outcomes(tally, cases.count);
+    }
     cases.run(tally, |r, tally| {
         // Where the module is at fault before it is mutated, the plan's faults do not show: half of the texts are sound ones.
         let originals = if r.percent(50) { &all } else { &sound };
@@ -35,7 +38,6 @@ pub fn run(cases: &Cases, tally: &mut Tally, hand_written: [&Path; 2], runs: &Ru
         compare(r, tally, &mutated, runs);
     });
     runs.clear(tally);
-    ask_for_outcomes(cases, tally);
 }
 
 fn both([module, plan]: [Option<Vec<u8>>; 2]) -> Option<Texts> {
@@ -153,14 +155,9 @@ fn compare(r: &mut Random, tally: &mut Tally, texts: &Texts, runs: &Runs) {
     }
 }
 
-/// The rarest refusal of a reading comes about once in 600 cases.
-fn ask_for_outcomes(cases: &Cases, tally: &mut Tally) {
-    if cases.are_at_least(2_000) {
-        tally.must_have_seen_at_least(BY_PROGRAMS, cases.count / 500);
-    }
-    if cases.are_at_least(20_000) {
-        ask_for_refusals_of_readings(tally);
-        tally.must_have_seen("report: verdict yes");
-        tally.must_have_seen("report: verdict none");
-    }
+fn ask_for_all_outcomes(tally: &mut Tally, count: u64) {
+    ask_for_refusals_of_readings(tally);
+    tally.must_have_seen("report: verdict yes");
+    tally.must_have_seen("report: verdict none");
+    tally.must_have_seen_at_least(BY_PROGRAMS, count / 200);
 }

@@ -26,16 +26,16 @@ pub fn confirm(tally: &mut Tally, property: Property, verdict: Verdict) -> Held 
 }
 
 pub fn run(cases: &Cases, tally: &mut Tally) {
-    cases.run(tally, try_case);
     ask_for_use(cases, tally, properties_of_tables::ALL);
     ask_for_use(cases, tally, properties_of_sequencers::ALL);
+    cases.run(tally, try_case);
 }
 
-/// Asks that each property was used often enough; of few cases it cannot be asked.
+/// Asks that each property is used often enough.
 pub fn ask_for_use(cases: &Cases, tally: &mut Tally, properties: &[Property]) {
     if cases.are_at_least(1_000) {
-        for (property, within) in properties {
-            tally.must_have_seen_at_least(property, cases.count / within);
+        for (property, cases_each) in properties {
+            tally.must_have_seen_at_least(property, cases.count / cases_each);
         }
     }
 }

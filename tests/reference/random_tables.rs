@@ -354,7 +354,7 @@ fn undeclared_step(r: &mut Random, table: &mut Table) {
 /// Any cell, at times the last one; a table may have none.
 fn any_cell<'t>(r: &mut Random, table: &'t mut Table) -> Option<&'t mut u16> {
     let last = table.cells.len().checked_sub(1)?;
-    let place = if r.percent(25) { last } else { r.between(0, last) };
+    let place = if r.percent(30) { last } else { r.between(0, last) };
     table.cells.get_mut(place)
 }
 

@@ -8,8 +8,7 @@ use crate::compare_texts::{random_writing, shown, Writing, REPORT_BYTES};
 use crate::program::{Buffers, PROGRAM};
 use crate::properties::{ask_for_use, confirm, hold, Held, Property};
 use crate::random::Random;
-use crate::random_tables::busy_module_and_plan;
-use crate::random_texts::{spelled_pair, split, text_pair};
+use crate::random_texts::{busy_texts, spelled_pair, split, text_pair};
 use crate::renumber::{self, Numbers};
 use crate::reply::Reply;
 use crate::table::{members, Table, SIGNALS};
@@ -45,8 +44,8 @@ const ALL: &[Property] = &[
 const LOOKED_UP: usize = 20;
 
 pub fn run(cases: &Cases, tally: &mut Tally) {
-    cases.run(tally, |r, tally| if r.percent(40) { try_writing(r, tally) } else { try_pair(r, tally) });
     ask_for_use(cases, tally, ALL);
+    cases.run(tally, |r, tally| if r.percent(40) { try_writing(r, tally) } else { try_pair(r, tally) });
 }
 
 fn try_writing(r: &mut Random, tally: &mut Tally) {
@@ -113,15 +112,12 @@ fn names_of(last: &Table, module: &[u8], plan: Option<&[u8]>) -> Vec<Vec<u8>> {
 /// Mostly sound texts, small enough that the module composed with the sequencer can be compared with the plan.
 fn random_texts(r: &mut Random) -> (Vec<u8>, Vec<u8>) {
     match r.below(100) {
-        0..=19 => text_pair(r),
-        20..=24 => {
-            let (module, plan) = busy_module_and_plan(r);
-            spelled_pair(r, &module, &plan)
+        0..=74 => {
+            let tables = properties_of_sequencers::draw(r).into();
+            spelled_pair(r, &tables)
         }
-        _ => {
-            let [module, plan] = properties_of_sequencers::draw(r);
-            spelled_pair(r, &module, &plan)
-        }
+        75..=79 => busy_texts(r),
+        _ => text_pair(r),
     }
 }
 

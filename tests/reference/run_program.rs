@@ -113,14 +113,14 @@ impl Runs {
 }
 
 pub fn run(cases: &Cases, tally: &mut Tally, runs: &Runs) {
+    if cases.are_at_least(30) {
+        ask_for_all_outcomes(tally);
+    }
     cases.run(tally, |r, tally| {
         let (module, plan) = random_files(r);
         runs.compare(tally, &module, &plan);
     });
     runs.clear(tally);
-    if cases.are_at_least(200) {
-        ask_for_all_outcomes(tally);
-    }
 }
 
 /// What a program prints in a folder, if it ends well and says nothing on standard error; else what became of it.

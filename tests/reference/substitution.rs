@@ -28,14 +28,14 @@ const DROP_AND_MOVE: &str = "premises hold, both compositions drop pairs, and th
 type Case = [Table; 4];
 
 pub fn run(cases: &Cases, tally: &mut Tally) {
+    if cases.are_at_least(1_000) {
+        ask_for_outcomes(tally, cases.count);
+    }
     cases.run(tally, |r, tally| {
         let case = random_case(r);
         let fault = try_order(tally, &case).or(try_substitution(tally, &case)).or(try_swap(tally, &case));
         tally.check(fault.is_none(), || format!("{}\n  {case:?}", fault.unwrap_or_default()));
     });
-    if cases.are_at_least(1) {
-        ask_for_outcomes(tally, cases.count);
-    }
 }
 
 /// Few compositions of Y with Z drop pairs and move by chance.
