@@ -19,7 +19,11 @@
 //!     reference flags SEED COUNT [CASE]                              counts of kept flags
 //!     reference ends SEED COUNT [CASE]                               what is reached, and counts of ends
 //!     reference substitution SEED COUNT [CASE]                       a part in the place of the one that it refines: the archive alone
+//!     reference properties SEED COUNT [CASE]                         what answers on tables have to do with each other: the archive alone
+//!     reference readback SEED COUNT [CASE]                           what is written and printed, read again: the archive alone
 //!     reference program SEED COUNT FOLDER SEQUENCER CLASHES [CASE]   the two programs, run in a scratch folder
+//!     reference mutations SEED COUNT CASES CLASHES FOLDER SEQUENCER CLASHES [CASE]
+//!                                                                    folders of texts with some bytes changed: reading and the two programs
 //!
 //! With CASE that one case is run alone. But for `print` and `list`, the last line is 'N passed, M failed', and the exit status says the same.
 
@@ -85,8 +89,9 @@ fn main() -> ExitCode {
             eprintln!("       reference selftest CASES CLASHES");
             eprintln!("       reference examples EXAMPLES FOLDER SEQUENCER");
             eprintln!("       reference examples EXAMPLES --write");
-            eprintln!("       reference tables|texts|demand3|flags|ends|substitution SEED COUNT [CASE]");
+            eprintln!("       reference tables|texts|demand3|flags|ends|substitution|properties|readback SEED COUNT [CASE]");
             eprintln!("       reference program SEED COUNT FOLDER SEQUENCER CLASHES [CASE]");
+            eprintln!("       reference mutations SEED COUNT CASES CLASHES FOLDER SEQUENCER CLASHES [CASE]");
             ExitCode::from(2)
         }
     }
@@ -120,8 +125,8 @@ fn run(arguments: &[&str]) -> Option<bool> {
         ("flags", []) => compare_flags::run(&cases, &mut tally),
         ("ends", []) => compare_ends::run(&cases, &mut tally),
         ("substitution", []) => substitution::run(&cases, &mut tally),
-        ("readback", []) => readback::run(&cases, &mut tally),
         ("properties", []) => properties::run(&cases, &mut tally),
+        ("readback", []) => readback::run(&cases, &mut tally),
         ("program", [folder, sequencer, clashes]) => {
             if let Some(runs) = Runs::prepare(&mut tally, Path::new(folder), [sequencer, clashes].map(Path::new)) {
                 run_program::run(&cases, &mut tally, &runs);
