@@ -211,7 +211,7 @@ pub fn try_refinement(r: &mut Random, tally: &mut Tally, [x, y]: &[Table; 2]) ->
     }
     let (better, worse) = (better(r, x), better(r, &y.mirror()).mirror());
     let marks = refinement(&better, &worse).flags;
-    hold(tally, STAYS, answer.flags.iter().zip(marks).all(|(&before, after)| before <= after))?;
+    hold(tally, STAYS, answer.flags.iter().zip(marks).all(|(&before, after)| after == 1 || after == before))?;
     let new = Renumbered::random(r, x, y);
     hold(tally, REFINED_RENUMBERED, refinement(&new.first, &new.second) == new.answer(&answer))
 }

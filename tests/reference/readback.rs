@@ -8,7 +8,8 @@ use crate::compare_texts::{random_writing, shown, Writing, REPORT_BYTES};
 use crate::program::{Buffers, PROGRAM};
 use crate::properties::{ask_for_use, confirm, hold, Held, Property};
 use crate::random::Random;
-use crate::random_texts::{busy_texts, spelled_pair, split, text_pair};
+use crate::random_tables::module_and_plan;
+use crate::random_texts::{borrowed, busy_texts, spelled_pair, split, text_pair};
 use crate::renumber::{self, Numbers};
 use crate::reply::Reply;
 use crate::table::{members, Table, SIGNALS};
@@ -26,9 +27,11 @@ const ANY_ORDER: Property = ("read: the order of the steps does not matter", 4);
 
 const READING_REFUSED: Property = ("printed: a refused reading, in its words", 30);
 const MAKER_REFUSED: Property = ("printed: 8 or 9, as the maker says", 200);
-const TOO_LARGE: Property = ("printed: 10 or 23, for a yes or a none of the maker", 200);
+const MANY_PAIRS: Property = ("printed: 10, for more than 1,024 pairs", 200);
+const LONG_TEXT: Property = ("printed: 23, where the writer says so", 200);
 const COUNTS: Property = ("printed: six lines that say what the maker answers", 4);
 const NO_TEXT: Property = ("printed: nothing but six lines where there is no sequencer", 50);
+const AS_WRITTEN: Property = ("printed: the text that the writer makes of the sequencer", 40);
 const SAME_NAMES: Property = ("printed: read with the module, signals with the names and numbers of before", 40);
 const SAME_TABLE: Property = ("printed: read with the module, the sequencer that the maker returns", 5);
 const FITS: Property = ("printed: read with the module, a sequencer that fits it", 5);
@@ -36,8 +39,8 @@ const MEETS: Property = ("printed: read with the module, a sequencer that meets 
 const MEETS_AFTER_DROPS: Property = ("printed: the same with pairs dropped and a step from its first state", 10);
 
 const ALL: &[Property] = &[
-    WRITTEN, WRITTEN_NAMES, WRITTEN_AGAIN, MODULE_ALONE, PLAN_ALONE, ANY_ORDER, READING_REFUSED, MAKER_REFUSED, TOO_LARGE, COUNTS, NO_TEXT, SAME_NAMES, SAME_TABLE,
-    FITS, MEETS, MEETS_AFTER_DROPS,
+    WRITTEN, WRITTEN_NAMES, WRITTEN_AGAIN, MODULE_ALONE, PLAN_ALONE, ANY_ORDER, READING_REFUSED, MAKER_REFUSED, MANY_PAIRS, LONG_TEXT, COUNTS,
+    NO_TEXT, AS_WRITTEN, SAME_NAMES, SAME_TABLE, FITS, MEETS, MEETS_AFTER_DROPS,
 ];
 
 /// In so many of a hundred cases names are looked up, which takes a while: a lookup reads the texts.
@@ -109,14 +112,19 @@ fn names_of(last: &Table, module: &[u8], plan: Option<&[u8]>) -> Vec<Vec<u8>> {
     members(last.signals()).map(name).collect()
 }
 
-/// Mostly sound texts, small enough that the module composed with the sequencer can be compared with the plan.
+/// Mostly sound texts, small enough that the module composed with the sequencer can be compared with the plan; some of more than 1,024 pairs.
 fn random_texts(r: &mut Random) -> (Vec<u8>, Vec<u8>) {
     match r.below(100) {
         0..=74 => {
             let tables = properties_of_sequencers::draw(r).into();
             spelled_pair(r, &tables)
         }
-        75..=79 => busy_texts(r),
+        75..=77 => {
+            let sizes = (r.between(33, 64), r.between(32, 64));
+            let tables = module_and_plan(r, sizes);
+            spelled_pair(r, &tables)
+        }
+        78..=81 => busy_texts(r),
         _ => text_pair(r),
     }
 }
@@ -180,27 +188,33 @@ fn shuffle_steps(r: &mut Random, text: &[u8]) -> Vec<u8> {
 
 /// What is printed for two texts that can be read.
 fn try_printed(r: &mut Random, tally: &mut Tally, texts: [&[u8]; 2], tables: &[Table; 2], printed: &[u8]) -> Held {
-    let [module, plan] = tables;
-    let made = sequencer(module, plan);
+    let made = sequencer(&tables[0], &tables[1]);
     let refused_by = |number: u32| printed == format!("refused\t0\t{number}\t0\n").as_bytes();
     if made.reply.number != 0 {
         return hold(tally, MAKER_REFUSED, refused_by(made.reply.number));
     }
-    if printed.starts_with(b"refused") {
-        let has_many_pairs = made.reply.states > PROGRAM.flags;
-        return hold(tally, TOO_LARGE, if has_many_pairs { refused_by(10) } else { made.reply.yes && refused_by(23) });
+    if made.reply.states > PROGRAM.flags {
+        return hold(tally, MANY_PAIRS, refused_by(10));
+    }
+    if refused_by(23) {
+        let names = names_of(&tables[1], texts[0], Some(texts[1]));
+        return hold(tally, LONG_TEXT, made.reply.yes && write(&made.table(), b"sequencer", &borrowed(&names)).is_none());
     }
     let six_lines = six_lines(&made);
     hold(tally, COUNTS, printed.starts_with(&six_lines))?;
     let text = &printed[six_lines.len()..];
-    if !made.reply.yes {
-        return hold(tally, NO_TEXT, text.is_empty());
-    }
+    if made.reply.yes { try_text(r, tally, texts, tables, &made, text) } else { hold(tally, NO_TEXT, text.is_empty()) }
+}
+
+/// The printed sequencer, read with the module. Every signal of the module is the plan's too, so the plan's names are all there are.
+fn try_text(r: &mut Random, tally: &mut Tally, texts: [&[u8]; 2], [module, plan]: &[Table; 2], made: &Answer, text: &[u8]) -> Held {
     let read = read_together([texts[0], text], [module.cells.len(), made.cells.len()]);
     let Ok([same_module, same]) = read else { return hold(tally, SAME_TABLE, false) };
     hold(tally, SAME_TABLE, same_module == *module && same == made.table())?;
     if r.percent(LOOKED_UP) {
-        hold(tally, SAME_NAMES, names_of(&same, texts[0], Some(text)) == names_of(plan, texts[0], Some(texts[1])))?;
+        let names = names_of(plan, texts[0], Some(texts[1]));
+        hold(tally, AS_WRITTEN, write(&made.table(), b"sequencer", &borrowed(&names)).as_deref() == Some(text))?;
+        hold(tally, SAME_NAMES, names_of(&same, texts[0], Some(text)) == names)?;
     }
     confirm(tally, FITS, verdict(&fit(module, &same).reply))?;
     confirm(tally, if made.drops_pairs_and_moves() { MEETS_AFTER_DROPS } else { MEETS }, meets(module, &same, plan))
