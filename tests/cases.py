@@ -2,10 +2,10 @@
 """Runs the programs on folders and compares what they print with files of expected output, byte for byte. A folder has module.tab and plan.tab,
 or lacks one that cannot be read, and a note of what it tries.
 
-    tests/cases    stdout is what the main program `sequencer` prints
-    tests/clash    stdout is what the lister `clashes` prints, and main what the main program prints
+    tests/cases    stdout is what the program `sequencer` prints
+    tests/clash    stdout is what the lister `clashes` prints, and main what the program prints
 
-A program runs in a copy of the folder that has no expected output.
+A program runs in a copy of the folder that has no expected output. For a new case, expected.sh works out what has to be printed.
 
     cases.py [WORD ..]    the words stand before a program's path, as `valgrind -q --error-exitcode=9`
 

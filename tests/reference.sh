@@ -12,10 +12,6 @@ case "${1-}" in
     *) echo "usage: tests/reference.sh [soak]"; exit 1 ;;
 esac
 
-compile() {
-    rustc --edition 2021 -O -D warnings tests/reference/main.rs -L native=target/staticlib -l static=moqresam -l static=harness -o "$work/reference"
-}
-
 # run WHAT ARGUMENT..: shows what the comparison says, and adds its own count. One that ends without a count, late, or with a status that does
 # not agree with its count is a failure.
 run() {
@@ -35,7 +31,7 @@ run() {
 }
 
 echo "reference: seed $seed"
-try "comparison compiles" compile
+try "comparison compiles" bash tests/compile_reference.sh "$work/reference"
 run selftest tests/cases tests/clash
 run examples examples "$work/run" target/bin/sequencer
 run tables "$seed" "$((100000 * times))"

@@ -1,5 +1,5 @@
-//! The examples. A folder has module.tab and plan.tab, and in `stdout` what the program prints there; in `paths`, by hand, what its sequencer can do; and in
-//! `made`, if tables of the folder are made from others, how. examples/README.md says what stands in these two.
+//! The examples: each folder has module.tab and plan.tab, in `stdout` what the program prints there, in `paths`, by hand, what its sequencer can do,
+//! and in `made` how tables of the folder are made from others. examples/README.md says what stands in the last two.
 
 use crate::calls::{make_composition, make_product};
 use crate::compare_texts::shown;
@@ -9,18 +9,18 @@ use crate::run_program::output_of;
 use crate::selftest::{files, folders};
 use crate::table::{members, Table, SIGNALS};
 use crate::tally::Tally;
-use crate::text::{read_all, Rule, Signal, MOST_BYTES};
+use crate::text::{read_all, Rule, MOST_BYTES};
 use crate::writer::write;
 use std::fs;
 use std::path::Path;
 
-/// What was found or worked out, or why it could not be.
+/// Bytes that were found or worked out, or why they could not be.
 type Bytes = Result<Vec<u8>, String>;
 
-/// The lines of a report before the text of the sequencer.
+/// Lines of a report before the text of the sequencer.
 const LINES_BEFORE_TEXT: usize = 6;
 
-/// Holds each folder to the reference, and the program to `stdout`, in a scratch folder that is made if it is not there.
+/// Holds each folder to the reference, and the program to the folder. It runs in a scratch folder, which is made if it is not there.
 pub fn run(examples: &Path, scratch: &Path, sequencer: &Path) -> bool {
     let mut tally = Tally::default();
     for folder in folders(&mut tally, examples) {
@@ -32,20 +32,24 @@ pub fn run(examples: &Path, scratch: &Path, sequencer: &Path) -> bool {
     tally.finish()
 }
 
-/// Writes the tables that are made and `stdout` of each folder; whether all could be.
+/// Writes the tables that are made, and `stdout`, of each folder.
 pub fn write_anew(examples: &Path) -> bool {
     let mut tally = Tally::default();
-    let folders = folders(&mut tally, examples);
-    let written: Result<(), String> = folders.iter().try_for_each(|folder| {
-        for recipe in recipes(folder)? {
-            place(folder, &recipe.file, &made(folder, &recipe)?)?;
-        }
-        place(folder, "stdout", &printed(folder))
-    });
-    tally.check(written.is_ok(), || format!("{written:?}"));
+    for folder in folders(&mut tally, examples) {
+        let written = write_folder(&folder);
+        tally.check(written.is_ok(), || format!("{}: {}", folder.display(), written.unwrap_err()));
+    }
     tally.finish()
 }
 
+fn write_folder(folder: &Path) -> Result<(), String> {
+    for recipe in recipes(folder)? {
+        place(folder, &recipe.file, &made(folder, &recipe)?)?;
+    }
+    place(folder, "stdout", &printed(folder))
+}
+
+/// Passes if the bytes were found and are those expected.
 fn hold(tally: &mut Tally, folder: &Path, what: &str, found: Bytes, expected: Bytes) {
     tally.check(found.is_ok() && found == expected, || {
         let [found, expected] = [found, expected].map(|bytes| bytes.map_or_else(|error| error, |bytes| shown(&bytes)));
@@ -58,16 +62,16 @@ fn contents(folder: &Path, name: &str) -> Bytes {
 }
 
 fn place(folder: &Path, name: &str, bytes: &[u8]) -> Result<(), String> {
-    fs::write(folder.join(name), bytes).map_err(|error| format!("{}/{name}: {error}", folder.display()))
+    fs::write(folder.join(name), bytes).map_err(|error| format!("{name}: {error}"))
 }
 
-/// What the program has to print in a folder.
-pub fn printed(folder: &Path) -> Vec<u8> {
+/// Works out what the program has to print in a folder.
+fn printed(folder: &Path) -> Vec<u8> {
     let [module, plan] = files(folder);
     print(module.as_deref(), plan.as_deref())
 }
 
-/// What the program prints in a folder that has the two tables and nothing else.
+/// Runs the program in a folder that has the two tables and nothing else.
 fn run_copy(folder: &Path, scratch: &Path, sequencer: &Path) -> Bytes {
     let program = sequencer.canonicalize().map_err(|error| format!("{}: {error}", sequencer.display()))?;
     fs::create_dir_all(scratch).map_err(|error| format!("{}: {error}", scratch.display()))?;
@@ -77,7 +81,7 @@ fn run_copy(folder: &Path, scratch: &Path, sequencer: &Path) -> Bytes {
     output_of(&program, scratch)
 }
 
-/// The paths of the sequencer that stands in `stdout`; none where there is no sequencer.
+/// Works out the paths of the sequencer that stands in `stdout`: none where there is no sequencer.
 fn paths_of(folder: &Path) -> Bytes {
     let report = contents(folder, "stdout")?;
     let text: Vec<u8> = report.split_inclusive(|&byte| byte == b'\n').skip(LINES_BEFORE_TEXT).flatten().copied().collect();
@@ -85,35 +89,30 @@ fn paths_of(folder: &Path) -> Bytes {
         return Ok(Vec::new());
     }
     let (tables, signals) = read_all(Rule::Folded, &[&text]).map_err(refused)?;
-    let mut lines = Vec::new();
-    follow(&tables[0], &signals, &mut vec![tables[0].initial], b"", &mut lines);
-    Ok(lines.concat())
+    let name = |signal: usize| signals[signal].name.as_slice();
+    let line = |path: Vec<usize>| [path.into_iter().map(name).collect::<Vec<_>>().join(&b' '), b"\n".to_vec()].concat();
+    Ok(paths(&tables[0], &[tables[0].initial]).into_iter().flat_map(line).collect())
 }
 
-/// Adds a line for each path on from the last of the states that the table has been in: its signals, until there is no step, or the state is one of
-/// those before it.
-fn follow(table: &Table, signals: &[Signal], states: &mut Vec<usize>, path: &[u8], lines: &mut Vec<Vec<u8>>) {
+/// Lists the paths on from the last of the states that a table has been in: the signals, until there is no step, or the state is one of those before it.
+fn paths(table: &Table, states: &[usize]) -> Vec<Vec<usize>> {
     let (state, before) = states.split_last().expect("a path begins in a state");
     let steps: Vec<(usize, usize)> = members(table.signals()).filter_map(|signal| Some((signal, table.step(*state, signal)?))).collect();
     if steps.is_empty() || before.contains(state) {
-        return lines.push([path, b"\n"].concat());
+        return vec![Vec::new()];
     }
-    for (signal, to) in steps {
-        let blank: &[u8] = if path.is_empty() { b"" } else { b" " };
-        states.push(to);
-        follow(table, signals, states, &[path, blank, &signals[signal].name].concat(), lines);
-        states.pop();
-    }
+    let on = |(signal, to)| paths(table, &[states, &[to]].concat()).into_iter().map(move |rest| [vec![signal], rest].concat());
+    steps.into_iter().flat_map(on).collect()
 }
 
-/// The lines in alphabetical order: paths have none of their own.
+/// Sorts lines: paths have no order of their own.
 fn sorted(text: Vec<u8>) -> Vec<u8> {
     let mut lines: Vec<&[u8]> = text.split_inclusive(|&byte| byte == b'\n').collect();
     lines.sort();
     lines.concat()
 }
 
-/// How a table is made from others: a line of `made`.
+/// A line of `made`: how a table is made from others.
 struct Recipe {
     file: String,
     name: String,
@@ -126,7 +125,7 @@ type Combine = fn(&Table, &Table) -> Result<Table, Reply>;
 /// Compares the tables that are made. Every other table of the folder has to be a part of one: so no recipe is lost unseen.
 fn compare_made(tally: &mut Tally, folder: &Path) {
     let recipes = recipes(folder).unwrap_or_else(|error| {
-        tally.check(false, || error);
+        tally.check(false, || format!("{}: {error}", folder.display()));
         Vec::new()
     });
     for recipe in &recipes {
@@ -138,13 +137,13 @@ fn compare_made(tally: &mut Tally, folder: &Path) {
     tally.check(unused.is_empty(), || format!("{}: nothing is made from {unused:?}", folder.display()));
 }
 
-/// The recipes of a folder; without a file `made` there are none.
+/// Reads the recipes of a folder: without a file `made` there are none.
 fn recipes(folder: &Path) -> Result<Vec<Recipe>, String> {
     if !folder.join("made").exists() {
         return Ok(Vec::new());
     }
     let text = String::from_utf8(contents(folder, "made")?).map_err(|error| error.to_string())?;
-    text.lines().map(|line| recipe(line).ok_or(format!("{}/made: '{line}' is no recipe", folder.display()))).collect()
+    text.lines().map(|line| recipe(line).ok_or(format!("made: '{line}' is no recipe"))).collect()
 }
 
 fn recipe(line: &str) -> Option<Recipe> {
@@ -158,7 +157,7 @@ fn recipe(line: &str) -> Option<Recipe> {
     (parts.len() >= 2).then(|| Recipe { file: file.clone(), name: name.clone(), rule, parts: parts.to_vec() })
 }
 
-/// The table that a call on two tables gives.
+/// Gives the table of a call on two tables.
 fn combined(a: &Table, b: &Table, call: impl FnOnce(&mut [u16], &mut [u8]) -> Result<Reply, Reply>) -> Result<Table, Reply> {
     let pairs = a.states * b.states;
     let (mut cells, mut flags) = (vec![0; pairs * SIGNALS], vec![0; pairs]);
@@ -166,7 +165,7 @@ fn combined(a: &Table, b: &Table, call: impl FnOnce(&mut [u16], &mut [u8]) -> Re
     Ok(Table { states, initial, inputs, outputs, cells })
 }
 
-/// The text of a table that is made: its parts are read together, and taken together from the left.
+/// Works out the text of a table that is made. Its parts are read together, and taken from the left.
 fn made(folder: &Path, Recipe { name, rule, parts, .. }: &Recipe) -> Bytes {
     let texts: Vec<Vec<u8>> = parts.iter().map(|part| contents(folder, part)).collect::<Result<_, String>>()?;
     let texts: Vec<&[u8]> = texts.iter().map(Vec::as_slice).collect();

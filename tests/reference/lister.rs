@@ -5,7 +5,7 @@ use crate::reply::Reply;
 use crate::text::{first_clash, read_both, read_into, Rule, Signal};
 use crate::writer::{digits, line};
 
-/// A file that can't be read is `None`. As many cells are lent as by the main program.
+/// A file that can't be read is `None`. As many cells are lent as by the program.
 pub fn print(module: Option<&[u8]>, plan: Option<&[u8]>) -> Vec<u8> {
     let outcome = texts(module, plan).and_then(|(module, plan)| read_both(Rule::Exact, module, plan, PROGRAM.module_cells, PROGRAM.plan_cells));
     printed(outcome.map(|(_, _, signals)| signals))

@@ -70,7 +70,7 @@ pub struct Runs {
 }
 
 impl Runs {
-    /// `main` and `lister` are the programs. The folder is made if it is not there; nothing comes of it where it, or a program, cannot be had.
+    /// Makes the folder if it is not there. Gives nothing where that fails or a program, `main` or the lister of clashes, is missing.
     pub fn prepare(tally: &mut Tally, folder: &Path, [main, lister]: [&Path; 2]) -> Option<Runs> {
         let program = |path: &Path, name, print| path.canonicalize().map(|path| Program { path, name, print });
         let programs = [program(main, MAIN, program::print as Print), program(lister, LISTER, lister::print)];
@@ -123,7 +123,7 @@ pub fn run(cases: &Cases, tally: &mut Tally, runs: &Runs) {
     runs.clear(tally);
 }
 
-/// What a program prints in a folder, if it ends well and says nothing on standard error; else what became of it.
+/// Runs a program in a folder; gives what it prints if it ends well and says nothing on standard error, else what became of it.
 pub fn output_of(program: &Path, folder: &Path) -> Result<Vec<u8>, String> {
     let run = Command::new(program).current_dir(folder).stdin(Stdio::null()).output().map_err(|error| error.to_string())?;
     if run.status.code() == Some(0) && run.stderr.is_empty() {

@@ -1,5 +1,5 @@
-//! What was worked out by hand: the folders of cases, each with module.tab and plan.tab, or without one, and what is printed; and situations of tables.
-//! The reference is held to all of it, and the archive to the situations and, on the texts of every folder, to the reference.
+//! What was worked out by hand: folders of cases, each with module.tab and plan.tab, or without one, and what is printed; and situations of tables.
+//! The reference is held to all of it; the archive is held to the situations, and to the reference on the texts of every folder.
 
 use crate::compare_readings::{compare_lookups, compare_reading};
 use crate::compare_texts::{ask_for_refusals_of_readings, compare_report_of, shown};
@@ -10,7 +10,7 @@ use crate::{lister, program, situations};
 use std::fs;
 use std::path::{Path, PathBuf};
 
-/// `cases` has what the main program prints, in stdout. `clashes` has what the lister prints, in stdout, and what the main program prints, in main.
+/// `cases` has what the program prints, in stdout; `clashes` what the lister of clashes prints, in stdout, and what the program prints, in main.
 pub fn run(cases: &Path, clashes: &Path) -> bool {
     let mut tally = Tally::default();
     for folder in folders(&mut tally, cases) {
@@ -27,7 +27,7 @@ pub fn run(cases: &Path, clashes: &Path) -> bool {
     tally.finish()
 }
 
-/// The two files of a folder; nothing for one that can't be read.
+/// Reads the two files of a folder: nothing for one that can't be read.
 pub fn files(folder: &Path) -> [Option<Vec<u8>>; 2] {
     ["module.tab", "plan.tab"].map(|name| fs::read(folder.join(name)).ok())
 }
@@ -42,15 +42,15 @@ fn compare(tally: &mut Tally, folder: &Path, expected: &str, print: fn(Option<&[
     });
 }
 
-/// Holds the archive to the reference on the texts of a folder. What stands in the buffers before, and the bytes lent for a list, are drawn: three times,
-/// for a list to have enough of them.
+/// Holds the archive to the reference on the texts of a folder. What stands in lent buffers is drawn, and so are the bytes lent for a list, which may
+/// be too few: hence three times.
 fn compare_calls(tally: &mut Tally, folder: &Path) {
     let [module, plan] = files(folder);
     for case in 0..3 {
         tally.begin_case();
         compare_texts(tally, &mut Random::of_case(0, case), module.as_deref(), plan.as_deref());
         if let Some(failure) = tally.end_case() {
-            println!("failed: selftest, {}: {}", folder.display(), failure.words);
+            return println!("failed: selftest, {}: {}", folder.display(), failure.words);
         }
     }
 }
@@ -68,7 +68,7 @@ fn compare_texts(tally: &mut Tally, r: &mut Random, module: Option<&[u8]>, plan:
     }
 }
 
-/// The folders have to hold a text for every refusal of a reading, of either text, and for every other outcome of a report.
+/// Asks the folders for a text with each refusal of a reading, of module and plan, and for every other outcome of a report.
 fn ask_for_all_outcomes(tally: &mut Tally) {
     ask_for_refusals_of_readings(tally);
     for outcome in ["verdict yes", "verdict none", "refused  8 of 0", "refused  9 of 0", "refused 10 of 0", "refused 23 of 0"] {
@@ -76,7 +76,7 @@ fn ask_for_all_outcomes(tally: &mut Tally) {
     }
 }
 
-/// The folders in a folder; to have none is a failure.
+/// Lists the folders in a folder: to have none is a failure.
 pub fn folders(tally: &mut Tally, cases: &Path) -> Vec<PathBuf> {
     let entries = fs::read_dir(cases).into_iter().flatten().flatten();
     let mut folders: Vec<PathBuf> = entries.map(|entry| entry.path()).filter(|path| path.is_dir()).collect();

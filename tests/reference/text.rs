@@ -217,7 +217,7 @@ pub fn read_both(rule: Rule, module: &[u8], plan: &[u8], module_room: usize, pla
     Ok((module, plan, numbering.signals))
 }
 
-/// The tables of any texts, read in this order, with their common signals. There is room for every table.
+/// Reads any number of texts in their order, with room for every table; gives their tables and common signals.
 pub fn read_all(rule: Rule, texts: &[&[u8]]) -> Result<(Vec<Table>, Vec<Signal>), Reply> {
     let mut numbering = Numbering::by(rule);
     let tables: Result<Vec<Table>, Reply> =
