@@ -1,6 +1,7 @@
 //! Properties of the calls on one table, of composing, and of refinement.
 
 use crate::answers::{composition, fit, product, refinement, refines, sequencer, verdict, Answer, TOO_MANY_PAIRS};
+use crate::archive;
 use crate::bytes::to_bytes;
 use crate::properties::{hold, Held, Property};
 use crate::random::Random;
@@ -9,7 +10,6 @@ use crate::renumber::{self, Numbers};
 use crate::reply::Reply;
 use crate::table::{has, members, Table, NO_STEP, SIGNALS};
 use crate::tally::Tally;
-use crate::archive;
 
 const JUDGED_ALIKE: Property = ("mirror: with its lists exchanged a table is judged alike", 15);
 const MIRROR_REFUSED: Property = ("mirror: refused as the table is judged", 150);
@@ -117,8 +117,8 @@ pub fn two(r: &mut Random) -> [Table; 2] {
     };
     let (mut a, mut b) = drawn_until(r, draw, |(a, b)| composition(a, b).drops_pairs_and_moves());
     match r.below(12) {
-        0 => damage(r, &mut a),
-        1 => damage(r, &mut b),
+        10 => damage(r, &mut a),
+        11 => damage(r, &mut b),
         _ => (),
     }
     [a, b]
