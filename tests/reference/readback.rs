@@ -48,7 +48,7 @@ const LOOKED_UP: usize = 20;
 
 pub fn run(cases: &Cases, tally: &mut Tally) {
     ask_for_use(cases, tally, ALL);
-    cases.run(tally, |r, tally| if r.percent(40) { try_writing(r, tally) } else { try_pair(r, tally) });
+    cases.run(tally, |r, tally| if r.percent(45) { try_writing(r, tally) } else { try_pair(r, tally) });
 }
 
 fn try_writing(r: &mut Random, tally: &mut Tally) {
