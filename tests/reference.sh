@@ -40,6 +40,9 @@ run demand3 "$seed" "$((5000 * times))"
 run flags "$seed" "$((100000 * times))"
 run ends "$seed" "$((30000 * times))"
 run substitution "$seed" "$((30000 * times))"
+run properties "$seed" "$((50000 * times))"
+run readback "$seed" "$((12000 * times))"
+run mutations "$seed" "$((20000 * times))" tests/cases tests/clash "$work/run" target/bin/sequencer target/bin/clashes
 run program "$seed" "$((300 * times))" "$work/run" target/bin/sequencer target/bin/clashes
 
 finished=yes

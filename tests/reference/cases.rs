@@ -5,11 +5,16 @@ use crate::random::Random;
 use crate::smaller::{smallest, Failing};
 use crate::tally::Tally;
 use std::cell::RefCell;
+use std::ops::Range;
 use std::panic::{catch_unwind, set_hook, take_hook, AssertUnwindSafe};
 
 /// How many failing cases of a run are named and made smaller, and of how many checks that fail a case is shown.
 const MOST_NAMED: usize = 8;
 const MOST_SHOWN: usize = 3;
+
+/// How many times its count of cases a run goes on for, at most, until all outcomes that are asked for have occurred; and after how many cases it looks.
+const MOST_TIMES: u64 = 20;
+const MORE_CASES: u64 = 50;
 
 /// How many cases a comparison takes, and by which seed. `only` asks for one case alone.
 pub struct Cases<'a> {
@@ -20,23 +25,35 @@ pub struct Cases<'a> {
 }
 
 impl Cases<'_> {
-    /// Runs the cases. A case draws everything from its `Random`, so that seed and number repeat it.
+    /// Runs the cases, and some more while outcomes that the tally is asked for are missing: so chance alone lets no run fail. A case draws everything
+    /// from its `Random`, so that seed and number repeat it.
     pub fn run(&self, tally: &mut Tally, mut case: impl FnMut(&mut Random, &mut Tally)) {
         let hook = take_hook();
         set_hook(Box::new(|panic| PANIC.set(panic.to_string())));
-        let mut failed = Vec::new();
-        for number in self.only.map_or(0..self.count, |number| number..number + 1) {
-            let failing = failing(Random::of_case(self.seed, number), tally, &mut case);
-            if let Some(failing) = failing.filter(|_| failed.len() < MOST_NAMED) {
-                self.name(number, &failing);
-                failed.push((number, failing));
-            }
+        let mut failed = self.run_some(self.only.map_or(0..self.count, |number| number..number + 1), tally, &mut case);
+        let mut next = self.count;
+        while self.only.is_none() && next < self.count * MOST_TIMES && tally.has_more_to_see() {
+            failed.extend(self.run_some(next..next + MORE_CASES, tally, &mut case));
+            next += MORE_CASES;
         }
         show_smallest(failed, &mut case);
         set_hook(hook);
     }
 
-    /// Tells whether all cases run, and at least so many: only then can a comparison ask that rare outcomes occurred.
+    /// Runs these cases; returns the first that fail.
+    fn run_some(&self, numbers: Range<u64>, tally: &mut Tally, case: &mut impl FnMut(&mut Random, &mut Tally)) -> Vec<(u64, Failing)> {
+        let mut failed = Vec::new();
+        for number in numbers {
+            let failing = failing(Random::of_case(self.seed, number), tally, case);
+            if let Some(failing) = failing.filter(|_| failed.len() < MOST_NAMED) {
+                self.name(number, &failing);
+                failed.push((number, failing));
+            }
+        }
+        failed
+    }
+
+    /// Tells whether all cases run, and at least so many: only then does a comparison ask that rare outcomes occur.
     pub fn are_at_least(&self, count: u64) -> bool {
         self.only.is_none() && self.count >= count
     }

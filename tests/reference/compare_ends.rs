@@ -49,19 +49,24 @@ impl Case {
 }
 
 pub fn run(cases: &Cases, tally: &mut Tally) {
-    cases.run(tally, |r, tally| {
-        let kind = r.kind_of_first_cases(2 * LONGEST_STATES.len());
-        let case = if kind == 0 { random_case(r) } else { longest_case(r, kind - 1) };
-        // To say what can be said of the longest would take the reference seconds.
-        if kind == 0 {
-            ways::record_ends(tally, case.origin, &case.table, &case.flags);
-            ways::record_marks(tally, case.origin, &case.table, case.marks.len(), &case.sets);
-        }
-        compare(tally, r, &case);
-    });
-    if cases.are_at_least(20_000) {
+    if cases.are_at_least(1_000) {
         ways::ask(tally);
     }
+    cases.run(tally, |r, tally| {
+        let case = match r.kind_of_first_cases(BOUNDS.len() + 2 * LONGEST.len()) {
+            0 => recorded(tally, random_case(r)),
+            kind if kind <= BOUNDS.len() => recorded(tally, bound_case(r, BOUNDS[kind - 1])),
+            // To say what can be said of the longest would take the reference seconds.
+            kind => longest_case(r, kind - BOUNDS.len() - 1),
+        };
+        compare(tally, r, &case);
+    });
+}
+
+fn recorded(tally: &mut Tally, case: Case) -> Case {
+    ways::record_ends(tally, case.origin, &case.table, &case.flags);
+    ways::record_marks(tally, case.origin, &case.table, case.marks.len(), &case.sets);
+    case
 }
 
 fn compare(tally: &mut Tally, r: &mut Random, case: &Case) {
@@ -112,10 +117,20 @@ fn renumbered(r: &mut Random, case: &Case) -> (Case, Vec<usize>) {
     (other, numbers)
 }
 
-fn random_case(r: &mut Random) -> Case {
-    let (origin, table, flags) = if r.percent(40) { composition(r) } else { any_table(r) };
+/// Adds to a table and its flags what is lent for the marks.
+fn with_lent(r: &mut Random, (origin, table, flags): (&'static str, Table, Vec<u8>)) -> Case {
     let (marks, sets) = (Lent::arbitrary(r, table.states), random_sets(r, &table));
-    let mut case = Case { origin, table, flags, marks, sets };
+    Case { origin, table, flags, marks, sets }
+}
+
+fn random_case(r: &mut Random) -> Case {
+    let made = if r.percent(40) {
+        composition(r)
+    } else {
+        let states = some_states(r);
+        any_table(r, states)
+    };
+    let mut case = with_lent(r, made);
     if r.percent(15) {
         damage(r, &mut case);
     }
@@ -134,8 +149,7 @@ fn composition(r: &mut Random) -> (&'static str, Table, Vec<u8>) {
 }
 
 /// Draws mostly few steps a state, so that dead ends and parts that are not reached are frequent.
-fn any_table(r: &mut Random) -> (&'static str, Table, Vec<u8>) {
-    let states = some_states(r);
+fn any_table(r: &mut Random, states: usize) -> (&'static str, Table, Vec<u8>) {
     let inputs = any_set(r);
     let outputs = if r.percent(50) { !inputs } else { any_set(r) };
     let mut table = Table::blank(states, r.below(states), inputs, outputs);
@@ -153,8 +167,8 @@ fn any_table(r: &mut Random) -> (&'static str, Table, Vec<u8>) {
 /// Draws mostly few states; at times about 64, or about the most that there may be.
 fn some_states(r: &mut Random) -> usize {
     match r.below(1_000) {
-        0..=939 => r.between(1, 12),
-        940..=993 => r.between(60, 70),
+        0..=909 => r.between(1, 12),
+        910..=993 => r.between(60, 70),
         994..=997 => r.between(100, 400),
         _ => r.between(MOST_STATES - 1, MOST_STATES + 1),
     }
@@ -208,11 +222,20 @@ fn damage(r: &mut Random, case: &mut Case) {
     }
 }
 
-const LONGEST_STATES: [usize; 3] = [64, 65, MOST_STATES];
+/// Lists numbers of states next to a bound, each of which one of the first cases has.
+const BOUNDS: [usize; 6] = [63, 64, 65, MOST_STATES - 1, MOST_STATES, MOST_STATES + 1];
+
+fn bound_case(r: &mut Random, states: usize) -> Case {
+    let states = 1 + r.given(states - 1, MOST_STATES);
+    let made = any_table(r, states);
+    with_lent(r, made)
+}
+
+const LONGEST: [usize; 3] = [64, 65, MOST_STATES];
 
 /// Takes the most that a search can have before it, twice for each number of states: a way through all states, in any order; and a step in every cell.
 fn longest_case(r: &mut Random, number: usize) -> Case {
-    let states = 1 + r.given(LONGEST_STATES[number / 2] - 1, MOST_STATES - 1);
+    let states = 1 + r.given(LONGEST[number / 2] - 1, MOST_STATES - 1);
     let table = if number % 2 == 0 { longest_way(r, states) } else { full_table(r, states) };
     Case { origin: ANY, table, flags: vec![1; states], marks: Lent::arbitrary(r, states), sets: vec![u32::MAX; states] }
 }

@@ -12,6 +12,9 @@ use std::collections::BTreeSet;
 /// Bytes in a word; fewer stand before the flags, and so many behind them.
 const WORD: usize = 8;
 
+/// How many bytes there are.
+const BYTES: usize = 256;
+
 /// Bytes in four words.
 const BLOCK: usize = 32;
 
@@ -33,20 +36,19 @@ struct Case {
 
 pub fn run(cases: &Cases, tally: &mut Tally) {
     let mut met = Met::default();
+    if cases.are_at_least(BYTES as u64) {
+        for kind in [EMPTY, SINGLY, WHOLE, REST] {
+            tally.must_have_seen_at_least(kind, cases.count / 50);
+        }
+    }
     cases.run(tally, |r, tally| {
-        let case = random_case(r);
+        let case = some_case(r);
         tally.saw(kind(&case));
         met.add(&case.flags);
         let fault = wrong_count(&case).or_else(|| broken_property(r, &case));
         tally.check(fault.is_none(), || format!("{}, start {}\n  {:?}", fault.unwrap_or_default(), case.start, case.flags));
     });
-    if cases.are_at_least(1) {
-        for kind in [EMPTY, SINGLY, WHOLE, REST] {
-            tally.must_have_seen_at_least(kind, cases.count / 50);
-        }
-    }
-    // The rarest, a byte at the last place of a rest, comes about once in 8,000 cases.
-    if cases.are_at_least(100_000) {
+    if cases.are_at_least(BYTES as u64) {
         met.ask_for_all(tally);
     }
 }
@@ -70,7 +72,7 @@ impl Met {
 
     fn ask_for_all(&self, tally: &mut Tally) {
         for (part, met, places) in [("four words", &self.blocks, BLOCK), ("a word", &self.words, WORD), ("a rest", &self.rests, WORD - 1)] {
-            tally.check(met.len() == places * 256, || format!("of all bytes at all places of {part} {} occurred", met.len()));
+            tally.check(met.len() == places * BYTES, || format!("of all bytes at all places of {part} {} occurred", met.len()));
         }
     }
 }
@@ -85,6 +87,17 @@ fn kind(case: &Case) -> &'static str {
         1..=7 => SINGLY,
         length if length % WORD == 0 => WHOLE,
         _ => REST,
+    }
+}
+
+/// Each of the first cases has four words, a word and a rest, and every byte comes once to every place of theirs. The other cases are random.
+fn some_case(r: &mut Random) -> Case {
+    match r.kind_of_first_cases(BYTES) {
+        0 => random_case(r),
+        kind => {
+            let length = r.given(BLOCK + WORD + WORD - 1, BLOCK + WORD + WORD - 1);
+            Case { flags: (0..length).map(|place| ((place + kind) % BYTES) as u8).collect(), start: r.below(WORD) }
+        }
     }
 }
 

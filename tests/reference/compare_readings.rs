@@ -12,7 +12,7 @@ use crate::tally::Tally;
 use crate::text::Rule;
 use crate::{archive, lister, spellings, text};
 
-const NAME_BYTES: usize = 16;
+pub const NAME_BYTES: usize = 16;
 
 /// A plan that declares nothing: beside it a text is read together as it is read alone.
 const BARE_PLAN: &[u8] = b"table\tbare\t1\t0\n";
@@ -121,7 +121,7 @@ pub fn compare_reading(tally: &mut Tally, r: &mut Random, (module, room): (&[u8]
 }
 
 /// Cells to lend: mostly as many as the text's first line seems to ask for, else fewer or more.
-fn room_to_lend(r: &mut Random, text: &[u8]) -> usize {
+pub fn room_to_lend(r: &mut Random, text: &[u8]) -> usize {
     let field = text.split(|&byte| byte == b'\t').nth(2).unwrap_or(b"");
     let states: usize = std::str::from_utf8(field).ok().and_then(|digits| digits.parse().ok()).unwrap_or(0);
     let asked = states.clamp(1, 4_097) * SIGNALS;
@@ -219,12 +219,4 @@ fn look_up(rule: Rule, module: &[u8], plan: Option<&[u8]>, signal: usize, out: &
         }
         Err(number) => Reply { number, ..Reply::default() },
     }
-}
-
-/// What the library says of the name of a signal of a text alone.
-pub fn archive_name(text: &[u8], signal: usize) -> Vec<u8> {
-    let mut name = vec![0; NAME_BYTES];
-    let reply = archive::name(Rule::Folded, text, None, signal, &mut name);
-    name.truncate(reply.value);
-    name
 }

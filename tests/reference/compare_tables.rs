@@ -33,7 +33,7 @@ use Call::*;
 
 /// The calls, with the ones that have more to go wrong drawn more often.
 const DRAWN: &[Call] = &[
-    Judge, Mirror, Follow, Product, Fit, Fit, Compose, Compose, Refine, Refine, Synthesize, Synthesize, Synthesize,
+    Judge, Mirror, Follow, Product, Product, Fit, Fit, Compose, Compose, Refine, Refine, Synthesize, Synthesize, Synthesize,
     CountKept, CountSteps, CFit, CFit, CRefine, CRefine, CFollow, CFollow, CFollowRecord, CFollowRecord,
 ];
 
@@ -82,8 +82,12 @@ impl Case {
     }
 }
 
-/// Runs the cases, and then asks that everything that can occur did.
+/// Asks that everything that can occur does, and runs the cases.
 pub fn run(cases: &Cases, tally: &mut Tally) {
+    if cases.are_at_least(1_000) {
+        ask_for_all_outcomes(tally);
+        ask_for_all_sizes(tally);
+    }
     cases.run(tally, |r, tally| {
         let case = match r.kind_of_first_cases(CHAIN_CALLS.len() * CHAIN_LENGTHS.len()) {
             0 => random_case(r),
@@ -91,14 +95,6 @@ pub fn run(cases: &Cases, tally: &mut Tally) {
         };
         compare(tally, case);
     });
-    if cases.are_at_least(20_000) {
-        ask_for_all_outcomes(tally);
-    }
-    // The rarest place comes about once in 6,000 cases.
-    if cases.are_at_least(50_000) {
-        ask_for_all_places(tally);
-        ask_for_all_sizes(tally);
-    }
 }
 
 fn compare(tally: &mut Tally, case: Case) {
@@ -372,19 +368,13 @@ fn ask_for_all_outcomes(tally: &mut Tally) {
             tally.must_have_seen(&dropping(call, true));
         }
         for (number, table) in refusals(call) {
-            tally.must_have_seen(&outcome(call, number, table, false));
+            let refusal = outcome(call, number, table, false);
+            tally.must_have_seen(&refusal);
+            places::ask(tally, &refusal, number, is_follower(call));
         }
     }
     for cells in [1, 2, 5] {
         tally.must_have_seen(mended(cells));
-    }
-}
-
-fn ask_for_all_places(tally: &mut Tally) {
-    for call in DRAWN.iter().copied() {
-        for (number, table) in refusals(call) {
-            places::ask(tally, &outcome(call, number, table, false), number, is_follower(call));
-        }
     }
 }
 

@@ -1,7 +1,7 @@
 //! Demand 3 by brute force: every sequencer of few states makes the module meet the plan exactly if it refines the table that the archive
 //! returns, and none does where the archive says that there is none.
 
-use crate::archive;
+use crate::answers::sequencer;
 use crate::cases::Cases;
 use crate::random::Random;
 use crate::random_tables::{module_and_plan, near};
@@ -18,6 +18,7 @@ const MISS: &str = "sequencers that do not";
 
 pub fn run(cases: &Cases, tally: &mut Tally) {
     if cases.are_at_least(1) {
+        [MEET, MISS, "pairs with a sequencer", "pairs with none"].iter().for_each(|outcome| tally.must_have_seen(outcome));
         try_all(tally, 0b01, 3);
         try_all(tally, 0b11, 2);
     }
@@ -27,9 +28,6 @@ pub fn run(cases: &Cases, tally: &mut Tally) {
         let (module, plan) = random_pair(r, 6, |_| true);
         try_larger(tally, r, &module, &plan);
     });
-    if cases.are_at_least(1) {
-        [MEET, MISS, "pairs with a sequencer", "pairs with none"].iter().for_each(|outcome| tally.must_have_seen(outcome));
-    }
 }
 
 /// Draws a module and a plan that check 8 accepts. Two drawings in five do not suit; that none of so many does cannot be told from never.
@@ -101,11 +99,8 @@ fn try_sequencer(tally: &mut Tally, module: &Table, plan: &Table, sequencer: &Ta
 
 /// What the archive returns: the table that its reply and its buffer make, or none.
 fn returned_sequencer(module: &Table, plan: &Table) -> Option<Table> {
-    let pairs = module.states * plan.states;
-    let (mut cells, mut flags) = (vec![0; pairs * SIGNALS], vec![0; pairs]);
-    let reply = archive::synthesize(module, plan, &mut cells, &mut flags);
-    let table = Table { states: reply.states, initial: reply.initial, inputs: reply.inputs, outputs: reply.outputs, cells };
-    reply.yes.then_some(table)
+    let made = sequencer(module, plan);
+    made.reply.yes.then(|| made.table())
 }
 
 fn said(module: &Table, plan: &Table, sequencer: &Table, fault: &str) -> String {

@@ -1,7 +1,8 @@
 //! An independent implementation of document 01 and of S-2 to S-5 and S-9 of document 02, written from their words and by the plainest means, and
 //! comparisons of the archives and the programs with it. The rules are in `table` to `synth` and `reach`, the calls with their refusals in `calls`,
 //! `text`, `writer`, `program` and `lister`; what is tried comes from `random_tables` and `random_texts`, and `places` says which bad cells have to be
-//! among it, `orders` which steps of one state, `ways` which ends, `spellings` which names; the archives stand behind `archive`.
+//! among it, `orders` which steps of one state, `ways` which ends, `spellings` which names; the archives stand behind `archive`. Some comparisons do not
+//! ask the reference: `substitution`, `properties` and `readback` hold the archive to its own answers, which `answers` has.
 //!
 //! Where document 01 is silent the reference follows docs/DECISIONS.md or the library, and says nothing on its own: the table that a refusal of a call
 //! on one table and of the writer names; a missing entry of the writer's names; what counts as a step in cells that no check has seen; what
@@ -19,10 +20,15 @@
 //!     reference flags SEED COUNT [CASE]                              counts of kept flags
 //!     reference ends SEED COUNT [CASE]                               what is reached, and counts of ends
 //!     reference substitution SEED COUNT [CASE]                       a part in the place of the one that it refines: the archive alone
+//!     reference properties SEED COUNT [CASE]                         what answers on tables have to do with each other: the archive alone
+//!     reference readback SEED COUNT [CASE]                           what is written and printed, read again: the archive alone
 //!     reference program SEED COUNT FOLDER SEQUENCER CLASHES [CASE]   the two programs, run in a scratch folder
+//!     reference mutations SEED COUNT CASES CLASHES FOLDER SEQUENCER CLASHES [CASE]
+//!                                                                    folders of texts with some bytes changed: reading and the two programs
 //!
 //! With CASE that one case is run alone. But for `print` and `list`, the last line is 'N passed, M failed', and the exit status says the same.
 
+mod answers;
 mod archive;
 mod bytes;
 mod calls;
@@ -37,15 +43,21 @@ mod examples;
 mod fit;
 mod lent;
 mod lister;
+mod mutations;
 mod orders;
 mod places;
 mod product;
 mod program;
+mod properties;
+mod properties_of_sequencers;
+mod properties_of_tables;
 mod random;
 mod random_tables;
 mod random_texts;
 mod reach;
+mod readback;
 mod refine;
+mod renumber;
 mod reply;
 mod run_program;
 mod selftest;
@@ -61,6 +73,7 @@ mod ways;
 mod writer;
 
 use crate::cases::Cases;
+use crate::run_program::Runs;
 use crate::tally::Tally;
 use std::io::Write;
 use std::path::Path;
@@ -77,8 +90,9 @@ fn main() -> ExitCode {
             eprintln!("       reference selftest CASES CLASHES");
             eprintln!("       reference examples EXAMPLES FOLDER SEQUENCER");
             eprintln!("       reference examples EXAMPLES --write");
-            eprintln!("       reference tables|texts|demand3|flags|ends|substitution SEED COUNT [CASE]");
+            eprintln!("       reference tables|texts|demand3|flags|ends|substitution|properties|readback SEED COUNT [CASE]");
             eprintln!("       reference program SEED COUNT FOLDER SEQUENCER CLASHES [CASE]");
+            eprintln!("       reference mutations SEED COUNT CASES CLASHES FOLDER SEQUENCER CLASHES [CASE]");
             ExitCode::from(2)
         }
     }
@@ -96,7 +110,12 @@ fn run(arguments: &[&str]) -> Option<bool> {
     }
     let [what, seed, count, rest @ ..] = arguments else { return None };
     let (seed, count): (u64, u64) = (seed.parse().ok()?, count.parse().ok()?);
-    let (paths, only) = rest.split_at(if *what == "program" { rest.len().min(3) } else { 0 });
+    let paths = match *what {
+        "program" => 3,
+        "mutations" => 5,
+        _ => 0,
+    };
+    let (paths, only) = rest.split_at_checked(paths)?;
     let cases = Cases { what, seed, count, only: one(only)? };
     let mut tally = Tally::default();
     println!("{what}, seed {seed}");
@@ -107,8 +126,17 @@ fn run(arguments: &[&str]) -> Option<bool> {
         ("flags", []) => compare_flags::run(&cases, &mut tally),
         ("ends", []) => compare_ends::run(&cases, &mut tally),
         ("substitution", []) => substitution::run(&cases, &mut tally),
+        ("properties", []) => properties::run(&cases, &mut tally),
+        ("readback", []) => readback::run(&cases, &mut tally),
         ("program", [folder, sequencer, clashes]) => {
-            run_program::run(&cases, &mut tally, Path::new(folder), [Path::new(sequencer), Path::new(clashes)]);
+            if let Some(runs) = Runs::prepare(&mut tally, Path::new(folder), [sequencer, clashes].map(Path::new)) {
+                run_program::run(&cases, &mut tally, &runs);
+            }
+        }
+        ("mutations", [texts, clash_texts, folder, sequencer, clashes]) => {
+            if let Some(runs) = Runs::prepare(&mut tally, Path::new(folder), [sequencer, clashes].map(Path::new)) {
+                mutations::run(&cases, &mut tally, [texts, clash_texts].map(Path::new), &runs);
+            }
         }
         _ => return None,
     }

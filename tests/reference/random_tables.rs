@@ -99,6 +99,22 @@ pub fn part_and_surroundings(r: &mut Random) -> (Table, Table, Table) {
     (x, y, z)
 }
 
+/// Three small tables that may be composed with each other: a signal is sent by one of them at most.
+pub fn three_tables(r: &mut Random) -> [Table; 3] {
+    let mut tables = [0, 1, 2].map(|_| {
+        let states = r.between(1, 4);
+        Table::blank(states, r.below(states), 0, 0)
+    });
+    for signal in some_signals(r) {
+        let sender = r.below(4);
+        for (place, table) in tables.iter_mut().enumerate() {
+            declare(table, signal, if place == sender { Output } else { r.pick(&[Input, Absent]) });
+        }
+    }
+    tables.iter_mut().for_each(|table| add_steps(r, table));
+    tables
+}
+
 /// States of X, Y and Z: mostly so few that X composed with Z can be compared with Y composed with Z; at times just too many for that, or for one
 /// of the compositions.
 fn sizes_of_three(r: &mut Random) -> (usize, usize, usize) {
@@ -123,19 +139,24 @@ pub fn near_or_loosened(r: &mut Random, table: &Table, states: usize, percent_lo
 /// A table with the same lists that often refines the given one: unrolled from it, it takes more and sends less. Half of them are edited besides.
 pub fn near(r: &mut Random, table: &Table, states: usize) -> Table {
     let mut near = unrolled(r, table, states);
-    for state in 0..states {
-        for signal in members(table.outputs) {
-            if r.percent(20) {
-                near.clear_step(state, signal);
-            }
-        }
-    }
+    send_less(r, &mut near);
     take_more(r, &mut near);
     if r.percent(50) {
         let edits = r.between(1, 3);
         (0..edits).for_each(|_| edit(r, &mut near));
     }
     near
+}
+
+/// Draws in half of the cases again and again, 50 times at most, until the outcome suits: so what is rare becomes frequent.
+pub fn drawn_until<T>(r: &mut Random, draw: impl Fn(&mut Random) -> T, suits: impl Fn(&T) -> bool) -> T {
+    for _ in 1..r.pick(&[1, 50]) {
+        let drawn = draw(r);
+        if suits(&drawn) {
+            return drawn;
+        }
+    }
+    draw(r)
 }
 
 fn blank_pair(r: &mut Random, (first, second): Sizes, roles: &Roles, odd_roles: &Roles) -> (Table, Table) {
@@ -168,7 +189,7 @@ fn declare(table: &mut Table, signal: usize, role: Role) {
 }
 
 /// Steps at random: many inputs and fewer outputs make tables that fit.
-fn add_steps(r: &mut Random, table: &mut Table) {
+pub fn add_steps(r: &mut Random, table: &mut Table) {
     let (inputs, outputs) = (r.pick(&[30, 60, 85, 100]), r.pick(&[10, 25, 50, 90]));
     let near = r.percent(30);
     for state in 0..table.states {
@@ -214,7 +235,17 @@ fn unrolled(r: &mut Random, table: &Table, states: usize) -> Table {
     copy
 }
 
-fn take_more(r: &mut Random, table: &mut Table) {
+pub fn send_less(r: &mut Random, table: &mut Table) {
+    for state in 0..table.states {
+        for signal in members(table.outputs) {
+            if r.percent(20) {
+                table.clear_step(state, signal);
+            }
+        }
+    }
+}
+
+pub fn take_more(r: &mut Random, table: &mut Table) {
     for state in 0..table.states {
         for signal in members(table.inputs) {
             if table.step(state, signal).is_none() && r.percent(30) {
@@ -329,7 +360,7 @@ fn undeclared_step(r: &mut Random, table: &mut Table) {
 /// Any cell, at times the last one; a table may have none.
 fn any_cell<'t>(r: &mut Random, table: &'t mut Table) -> Option<&'t mut u16> {
     let last = table.cells.len().checked_sub(1)?;
-    let place = if r.percent(25) { last } else { r.between(0, last) };
+    let place = if r.percent(30) { last } else { r.between(0, last) };
     table.cells.get_mut(place)
 }
 

@@ -10,7 +10,7 @@ use crate::writer::{declaration_line, digits, line, step_line, text_of};
 pub fn good_names(r: &mut Random) -> Vec<Vec<u8>> {
     const ODD: &[&str] =
         &["a", "b", "p", "_", "__", "0", "00", "power", "power_", "poweri", "settled", "read", "start", "in", "out", "step", "table", "sp", "z"];
-    const LONG: &[&str] = &["abcdefghijklmnop", "abcdefghijklmnoq", "ABCDEFGHIJKLMNO9", "reference_2_warm", "qrstuvwxyz"];
+    const LONG: &[&str] = &["abcdefghijklmnop", "abcdefghijklmnoq", "ABCDEFGHIJKLMNO9", "reference_2_warm", "reference_2_Cold", "qrstuvwxyz"];
     let mut names: Vec<Vec<u8>> = [ODD, LONG].concat().iter().map(|name| name.as_bytes().to_vec()).collect();
     names.extend((0..17).map(|number| format!("s{number}").into_bytes()));
     let chance = r.pick(&[0, 20, 60]);
@@ -30,7 +30,7 @@ pub fn respelled(r: &mut Random, name: &[u8]) -> Vec<u8> {
     let letters: Vec<usize> = (0..name.len()).filter(|&place| name[place].is_ascii_alphabetic()).collect();
     let mut spelling = name.to_vec();
     let Some(&last) = letters.last() else { return spelling };
-    let one = if r.percent(30) { last } else { r.pick(&letters) };
+    let one = if r.percent(40) { last } else { r.pick(&letters) };
     let chance = r.pick(&[0, 0, 50, 100]);
     for place in letters {
         if place == one || r.percent(chance) {
@@ -63,7 +63,7 @@ pub fn borrowed(names: &[Vec<u8>]) -> Vec<&[u8]> {
 pub fn text_pair(r: &mut Random) -> (Vec<u8>, Vec<u8>) {
     let (module, plan) = random_pair(r);
     let mut names = good_names(r);
-    for _ in 0..r.pick(&[0, 0, 0, 0, 0, 1, 2]) {
+    for _ in 0..r.pick(&[0, 0, 0, 0, 1, 2]) {
         respell_together(r, &mut names, module.signals() | plan.signals());
     }
     let mut texts = (spelled(r, &module, &names), Vec::new());
@@ -83,6 +83,18 @@ pub fn text_pair(r: &mut Random) -> (Vec<u8>, Vec<u8>) {
         damage(r, text);
     }
     texts
+}
+
+/// Sound texts of two tables: no names clash.
+pub fn spelled_pair(r: &mut Random, (module, plan): &(Table, Table)) -> (Vec<u8>, Vec<u8>) {
+    let names = good_names(r);
+    (spelled(r, module, &names), spelled(r, plan, &names))
+}
+
+/// Sound texts for which the sequencer's text comes near its limit, or beyond it.
+pub fn busy_texts(r: &mut Random) -> (Vec<u8>, Vec<u8>) {
+    let tables = busy_module_and_plan(r);
+    spelled_pair(r, &tables)
 }
 
 fn random_pair(r: &mut Random) -> (Table, Table) {
@@ -120,24 +132,24 @@ fn spelled(r: &mut Random, table: &Table, names: &[Vec<u8>]) -> Vec<u8> {
 
 /// Damages a text in one of the ways that a refusal names, or at random.
 fn damage(r: &mut Random, text: &mut Vec<u8>) {
-    match r.below(25) {
+    match r.below(27) {
         0..=2 => damage_byte(r, text),
         3..=6 => damage_lines(r, text),
-        7 => damage_states(r, text),
-        8..=12 => damage_field(r, text),
-        13 => damage_field_count(r, text),
-        14 => return_carriages(r, text),
-        15 => drop(text.pop()),
-        16..=17 => declare_more(r, text),
-        18 => text.truncate(r.below(text.len() + 1) * r.below(2)),
-        19 => lengthen(r, text),
-        20..=21 => respell_line(r, text),
-        22..=23 => declare_again(r, text),
+        7..=8 => damage_first_line(r, text),
+        9..=13 => damage_field(r, text),
+        14 => damage_field_count(r, text),
+        15 => return_carriages(r, text),
+        16 => drop(text.pop()),
+        17..=19 => declare_more(r, text),
+        20 => text.truncate(r.below(text.len() + 1) * r.below(2)),
+        21 => lengthen(r, text),
+        22..=23 => respell_line(r, text),
+        24..=25 => declare_again(r, text),
         _ => *text = nonsense(r),
     }
 }
 
-fn damage_byte(r: &mut Random, text: &mut Vec<u8>) {
+pub fn damage_byte(r: &mut Random, text: &mut Vec<u8>) {
     if text.is_empty() {
         return;
     }
@@ -149,12 +161,12 @@ fn damage_byte(r: &mut Random, text: &mut Vec<u8>) {
     }
 }
 
-fn split(text: &[u8]) -> Vec<Vec<u8>> {
+pub fn split(text: &[u8]) -> Vec<Vec<u8>> {
     text.split_inclusive(|&byte| byte == b'\n').map(<[u8]>::to_vec).collect()
 }
 
 /// A line is dropped, doubled, exchanged with another, or comes again at the end with another last field: a step with another target.
-fn damage_lines(r: &mut Random, text: &mut Vec<u8>) {
+pub fn damage_lines(r: &mut Random, text: &mut Vec<u8>) {
     let mut lines = split(text);
     if lines.is_empty() {
         return;
@@ -175,13 +187,20 @@ fn damage_lines(r: &mut Random, text: &mut Vec<u8>) {
     *text = lines.concat();
 }
 
-/// The first line gets another number of states.
-fn damage_states(r: &mut Random, text: &mut Vec<u8>) {
-    let mut fields: Vec<Vec<u8>> = text.splitn(4, |&byte| byte == b'\t').map(<[u8]>::to_vec).collect();
-    if let Some(states) = fields.get_mut(2) {
-        *states = digits(r.pick(&[0, 1, 2, 1_024, 1_025, 4_096, 4_097, 65_535]));
+/// The first line gets another number of states or another first state.
+fn damage_first_line(r: &mut Random, text: &mut Vec<u8>) {
+    let mut lines = split(text);
+    let Some(first) = lines.first_mut() else { return };
+    let mut fields: Vec<Vec<u8>> = first.split(|&byte| byte == b'\t').map(<[u8]>::to_vec).collect();
+    if let [_, _, states, initial] = &mut fields[..] {
+        if r.percent(40) {
+            *initial = [digits(r.pick(&[1, 6, 24, 4_095, 4_096, 65_535])), b"\n".to_vec()].concat();
+        } else {
+            *states = digits(r.pick(&[0, 1, 2, 1_024, 1_025, 4_096, 4_097, 65_535]));
+        }
     }
-    *text = fields.join(&b'\t');
+    *first = fields.join(&b'\t');
+    *text = lines.concat();
 }
 
 /// One field of one line, or two, so that the order of the numbers shows, becomes another name, number or nonsense.
@@ -213,7 +232,7 @@ fn damage_field_count(r: &mut Random, text: &mut Vec<u8>) {
 }
 
 /// Edits the fields of one line, often of the first; its LF stays.
-fn edit_fields(r: &mut Random, text: &mut Vec<u8>, edit: impl Fn(&mut Random, &mut Vec<Vec<u8>>)) {
+pub fn edit_fields(r: &mut Random, text: &mut Vec<u8>, edit: impl Fn(&mut Random, &mut Vec<Vec<u8>>)) {
     let mut lines = split(text);
     if lines.is_empty() {
         return;
@@ -227,7 +246,7 @@ fn edit_fields(r: &mut Random, text: &mut Vec<u8>, edit: impl Fn(&mut Random, &m
 }
 
 /// CR before LF, on one line or on all.
-fn return_carriages(r: &mut Random, text: &mut Vec<u8>) {
+pub fn return_carriages(r: &mut Random, text: &mut Vec<u8>) {
     let mut lines = split(text);
     let all = r.percent(50);
     let one = r.below(lines.len().max(1));
@@ -283,7 +302,7 @@ fn declare_again(r: &mut Random, text: &mut Vec<u8>) {
 }
 
 /// The name in one line gets another spelling: a declaration's, so that its steps are left behind, or a step's, or the table's.
-fn respell_line(r: &mut Random, text: &mut Vec<u8>) {
+pub fn respell_line(r: &mut Random, text: &mut Vec<u8>) {
     edit_fields(r, text, |r, fields| {
         if let Some(name) = fields.iter_mut().skip(1).rfind(|field| field.iter().any(u8::is_ascii_alphabetic)) {
             *name = respelled(r, name);
@@ -306,7 +325,7 @@ fn crowd(r: &mut Random, module: &mut Vec<u8>, plan: &mut Vec<u8>) {
 }
 
 /// The text grows to its limit, or one byte beyond it, by repeating its end.
-fn lengthen(r: &mut Random, text: &mut Vec<u8>) {
+pub fn lengthen(r: &mut Random, text: &mut Vec<u8>) {
     let length = r.pick(&[65_536, 65_537, 65_538, 70_000, 131_072]);
     let filler: &[u8] = r.pick(&[&b"step\t0\ta\t0\n"[..], b"\n", b"x", b"\0"]);
     while text.len() < length {

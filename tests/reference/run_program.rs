@@ -11,7 +11,7 @@ use std::path::{Path, PathBuf};
 use std::process::{Command, Stdio};
 
 /// What stands under a file's name.
-enum Content {
+pub enum Content {
     Missing,
     Folder,
     Bytes(Vec<u8>),
@@ -63,43 +63,64 @@ struct Program {
 const MAIN: &str = "program";
 const LISTER: &str = "clashes";
 
-/// `programs` are the program and the lister of clashes. The folder is made if it is not there, and the two files in it are removed at the end.
-pub fn run(cases: &Cases, tally: &mut Tally, folder: &Path, programs: [&Path; 2]) {
-    let Ok(programs) = prepare(folder, programs) else {
-        return tally.check(false, || format!("program: no folder {} or no program among {programs:?}", folder.display()));
-    };
-    cases.run(tally, |r, tally| compare(tally, &random_files(r), folder, &programs));
-    for name in ["module.tab", "plan.tab"] {
-        let removed = clear(&folder.join(name));
-        tally.check(removed.is_ok(), || format!("program: {name} cannot be removed"));
+/// The two programs, and the scratch folder that they are run in.
+pub struct Runs {
+    folder: PathBuf,
+    programs: [Program; 2],
+}
+
+impl Runs {
+    /// Makes the folder if it is not there. Gives nothing where that fails or a program, `main` or the lister of clashes, is missing.
+    pub fn prepare(tally: &mut Tally, folder: &Path, [main, lister]: [&Path; 2]) -> Option<Runs> {
+        let program = |path: &Path, name, print| path.canonicalize().map(|path| Program { path, name, print });
+        let programs = [program(main, MAIN, program::print as Print), program(lister, LISTER, lister::print)];
+        let is_made = fs::create_dir_all(folder).is_ok();
+        let runs = match programs {
+            [Ok(main), Ok(lister)] if is_made => Some(Runs { folder: folder.to_path_buf(), programs: [main, lister] }),
+            _ => None,
+        };
+        tally.check(runs.is_some(), || format!("no folder {}, or no program {} or {}", folder.display(), main.display(), lister.display()));
+        runs
     }
-    if cases.are_at_least(200) {
+
+    fn files(&self) -> [PathBuf; 2] {
+        ["module.tab", "plan.tab"].map(|name| self.folder.join(name))
+    }
+
+    /// Places the two files, and runs each program on them.
+    pub fn compare(&self, tally: &mut Tally, module: &Content, plan: &Content) {
+        let [module_file, plan_file] = self.files();
+        let placed = module.place(&module_file).and_then(|()| plan.place(&plan_file));
+        tally.check(placed.is_ok(), || "the files cannot be written".to_string());
+        for Program { path, name, print } in &self.programs {
+            let expected = print(module.bytes(), plan.bytes());
+            tally.saw(&format!("{name}: {}", said(&expected)));
+            orders::record(tally, name, &expected);
+            let output = output_of(path, &self.folder);
+            tally.check(output.as_ref() == Ok(&expected), || {
+                let said = output.map_or_else(|error| error, |output| shown(&output));
+                format!("{name}\n  {}\n  {}\n  expected {}\n  is       {said}", module.shown(), plan.shown(), shown(&expected))
+            });
+        }
+    }
+
+    /// Removes the two files.
+    pub fn clear(&self, tally: &mut Tally) {
+        for file in self.files() {
+            tally.check(clear(&file).is_ok(), || format!("{} cannot be removed", file.display()));
+        }
+    }
+}
+
+pub fn run(cases: &Cases, tally: &mut Tally, runs: &Runs) {
+    if cases.are_at_least(30) {
         ask_for_all_outcomes(tally);
     }
-}
-
-fn prepare(folder: &Path, [main, lister]: [&Path; 2]) -> std::io::Result<[Program; 2]> {
-    fs::create_dir_all(folder)?;
-    Ok([
-        Program { path: main.canonicalize()?, name: MAIN, print: program::print },
-        Program { path: lister.canonicalize()?, name: LISTER, print: lister::print },
-    ])
-}
-
-/// Places the two files, and runs each program on them.
-fn compare(tally: &mut Tally, (module, plan): &(Content, Content), folder: &Path, programs: &[Program; 2]) {
-    let placed = module.place(&folder.join("module.tab")).and_then(|()| plan.place(&folder.join("plan.tab")));
-    tally.check(placed.is_ok(), || "the files cannot be written".to_string());
-    for Program { path, name, print } in programs {
-        let expected = print(module.bytes(), plan.bytes());
-        tally.saw(&format!("{name}: {}", said(&expected)));
-        orders::record(tally, name, &expected);
-        let output = output_of(path, folder);
-        tally.check(output.as_ref() == Ok(&expected), || {
-            let said = output.map_or_else(|error| error, |output| shown(&output));
-            format!("{name}\n  {}\n  {}\n  expected {}\n  is       {said}", module.shown(), plan.shown(), shown(&expected))
-        });
-    }
+    cases.run(tally, |r, tally| {
+        let (module, plan) = random_files(r);
+        runs.compare(tally, &module, &plan);
+    });
+    runs.clear(tally);
 }
 
 /// Runs a program in a folder; gives what it prints if it ends well and says nothing on standard error, else what became of it.

@@ -2,15 +2,13 @@
 //! composed with Z. With it go that refinement is reflexive and passes along a chain, and that composing Z with Y gives the composition of Y with
 //! Z, pairs swapped. The reference is not asked: answers of the archive are compared with each other.
 
-use crate::archive;
+use crate::answers::{composition, fit, refinement, refines, verdict, Answer, Verdict, TOO_MANY_PAIRS};
 use crate::cases::Cases;
 use crate::random::Random;
-use crate::random_tables::{near_or_loosened, part_and_surroundings};
-use crate::reply::Reply;
-use crate::table::{Table, NO_STEP, SIGNALS};
+use crate::random_tables::{drawn_until, near_or_loosened, part_and_surroundings};
+use crate::renumber::{self, Numbers};
+use crate::table::Table;
 use crate::tally::Tally;
-
-const TOO_MANY_PAIRS: u32 = 9;
 
 const REFLEXIVE: &str = "X refines X";
 const CHAIN: &str = "W refines X and X refines Y; W refines Y";
@@ -29,98 +27,52 @@ const DROP_AND_MOVE: &str = "premises hold, both compositions drop pairs, and th
 /// Tables W, X, Y and Z: W often refines X, X often refines Y, and Y meets Z.
 type Case = [Table; 4];
 
-/// Yes or no, or the number of the refusal.
-type Verdict = Result<bool, u32>;
-
-/// What the archive says of two tables composed, and the buffers that it was lent.
-#[derive(PartialEq)]
-struct Composition {
-    reply: Reply,
-    cells: Vec<u16>,
-    flags: Vec<u8>,
-}
-
 pub fn run(cases: &Cases, tally: &mut Tally) {
+    if cases.are_at_least(1_000) {
+        ask_for_outcomes(tally, cases.count);
+    }
     cases.run(tally, |r, tally| {
         let case = random_case(r);
         let fault = try_order(tally, &case).or(try_substitution(tally, &case)).or(try_swap(tally, &case));
         tally.check(fault.is_none(), || format!("{}\n  {case:?}", fault.unwrap_or_default()));
     });
-    if cases.are_at_least(1) {
-        ask_for_outcomes(tally, cases.count);
-    }
 }
 
-/// Half of the cases are drawn again, 49 times at most, until the composition of Y with Z drops pairs and moves; few do by chance.
+/// Few compositions of Y with Z drop pairs and move by chance.
 fn random_case(r: &mut Random) -> Case {
-    let mut tries = r.pick(&[1, 50]);
-    loop {
-        let (x, y, z) = part_and_surroundings(r);
-        tries -= 1;
-        if tries == 0 || compose(&y, &z).drops_pairs_and_moves() {
-            let states = r.between(1, 5);
-            return [near_or_loosened(r, &x, states, 20), x, y, z];
-        }
-    }
+    let (x, y, z) = drawn_until(r, part_and_surroundings, |(_, y, z)| composition(y, z).drops_pairs_and_moves());
+    let states = r.between(1, 5);
+    [near_or_loosened(r, &x, states, 20), x, y, z]
 }
 
-fn verdict(reply: &Reply) -> Verdict {
-    if reply.number == 0 { Ok(reply.yes) } else { Err(reply.number) }
-}
-
-fn refines(x: &Table, y: &Table) -> Verdict {
-    verdict(&archive::judge_refinement(x, y, &mut vec![0; x.states * y.states]))
-}
-
-fn compose(a: &Table, b: &Table) -> Composition {
-    let pairs = a.states * b.states;
-    let (mut cells, mut flags) = (vec![0; pairs * SIGNALS], vec![0; pairs]);
-    let reply = archive::make_composition(a, b, &mut cells, &mut flags);
-    Composition { reply, cells, flags }
-}
-
-impl Composition {
-    fn table(&self) -> Table {
-        let Reply { states, initial, inputs, outputs, .. } = self.reply;
-        Table { states, initial, inputs, outputs, cells: self.cells.clone() }
-    }
-
-    /// Whether pairs are dropped, the first is kept, and it has a step.
-    fn drops_pairs_and_moves(&self) -> bool {
-        let first = self.reply.initial * SIGNALS;
-        self.reply.yes && self.reply.value > 0 && self.cells[first..first + SIGNALS].iter().any(|&cell| cell != NO_STEP)
-    }
-
-    /// The same with the pair (q, p) in the place of (p, q), where p is a state of `a` and q one of `b`.
-    fn swapped(&self, a: &Table, b: &Table) -> Composition {
-        let swap = |pair: usize| pair % b.states * a.states + pair / b.states;
-        let reply = Reply { initial: swap(self.reply.initial), ..self.reply };
-        let (mut cells, mut flags) = (self.cells.clone(), self.flags.clone());
-        for pair in 0..flags.len() {
-            flags[swap(pair)] = self.flags[pair];
-            for signal in 0..SIGNALS {
-                let to = self.cells[pair * SIGNALS + signal];
-                cells[swap(pair) * SIGNALS + signal] = if to == NO_STEP { NO_STEP } else { swap(usize::from(to)) as u16 };
-            }
-        }
-        Composition { reply, cells, flags }
-    }
-}
-
-/// Refinement is reflexive and passes along a chain. Returns what contradicts this, if anything does.
+/// Refinement is reflexive and passes along a chain, and so are the marks. Returns what contradicts this, if anything does.
 fn try_order(tally: &mut Tally, [w, x, y, _]: &Case) -> Option<String> {
     let is_chain = refines(w, x) == Ok(true) && refines(x, y) == Ok(true);
     let (itself, ends) = (refines(x, x), refines(w, y));
     let seen = [outcome(REFLEXIVE, itself), outcome(if is_chain { CHAIN } else { NO_CHAIN }, ends)];
     seen.iter().for_each(|seen| tally.saw(seen));
-    let contradicted = contradicts(itself) || is_chain && contradicts(ends);
-    contradicted.then(|| seen.join(", "))
+    if contradicts(itself) || is_chain && contradicts(ends) {
+        return Some(seen.join(", "));
+    }
+    (!are_marks_in_order(w, x, y)).then(|| "the marks of W, X and Y are no order".to_string())
+}
+
+/// Whether each state of X is marked with itself, and marks from W to X and on to Y are joined by marks from W to Y. Nothing is said where there
+/// are too many pairs.
+fn are_marks_in_order(w: &Table, x: &Table, y: &Table) -> bool {
+    let (itself, to_x, on, ends) = (refinement(x, x), refinement(w, x), refinement(x, y), refinement(w, y));
+    if [&itself, &to_x, &on, &ends].iter().any(|answer| answer.reply.number != 0) {
+        return true;
+    }
+    let mark = |answer: &Answer, p: usize, q: usize, of_q: &Table| answer.flags[p * of_q.states + q] == 1;
+    let passes_on = |p: usize, q: usize| (0..y.states).all(|s| !mark(&on, q, s, y) || mark(&ends, p, s, y));
+    (0..x.states).all(|q| mark(&itself, q, q, x) && (0..w.states).all(|p| !mark(&to_x, p, q, x) || passes_on(p, q)))
 }
 
 /// X in the place of Y. Where a premise is missing, the outcome is only counted.
 fn try_substitution(tally: &mut Tally, case: &Case) -> Option<String> {
     let [_, x, y, z] = case;
-    let (xz, yz) = (compose(x, z), compose(y, z));
+    let (xz, yz) = (composition(x, z), composition(y, z));
     let premises = premises(x, y, &yz);
     let (asked, answer) = match (verdict(&xz.reply), verdict(&yz.reply)) {
         (Ok(true), Ok(_)) => (REFINES, refines(&xz.table(), &yz.table())),
@@ -139,7 +91,7 @@ fn try_substitution(tally: &mut Tally, case: &Case) -> Option<String> {
 }
 
 /// Which premises hold; one that a refused call leaves open is not counted as missing.
-fn premises(x: &Table, y: &Table, yz: &Composition) -> &'static str {
+fn premises(x: &Table, y: &Table, yz: &Answer) -> &'static str {
     let same_lists = (x.inputs, x.outputs) == (y.inputs, y.outputs);
     match (refines(x, y), same_lists, verdict(&yz.reply)) {
         (Ok(true), true, Ok(true)) => HOLD,
@@ -153,14 +105,12 @@ fn premises(x: &Table, y: &Table, yz: &Composition) -> &'static str {
 
 /// Z composed with Y is Y composed with Z, pairs swapped; the call that only judges the fit gives the same verdict, rounds and flags.
 fn try_swap(tally: &mut Tally, [_, _, y, z]: &Case) -> Option<String> {
-    let (yz, zy) = (compose(y, z), compose(z, y));
+    let (yz, zy, fit) = (composition(y, z), composition(z, y), fit(z, y));
     tally.saw(&outcome(SWAP, verdict(&zy.reply)));
-    let mut flags = vec![0; z.states * y.states];
-    let fit = archive::judge_fit(z, y, &mut flags);
-    if zy != yz.swapped(y, z) {
+    if zy != renumber::answer(&yz, &Numbers::swapping(y, z), &Numbers::unchanged()) {
         Some(format!("Z composed with Y, {:?}, is not Y composed with Z, {:?}, pairs swapped", zy.reply, yz.reply))
-    } else if (verdict(&fit), fit.value, flags) != (verdict(&zy.reply), zy.reply.value, zy.flags) {
-        Some(format!("the fit of Z and Y, {fit:?}, is not that of their composition, {:?}", zy.reply))
+    } else if (verdict(&fit.reply), fit.reply.value, fit.flags) != (verdict(&zy.reply), zy.reply.value, zy.flags) {
+        Some(format!("the fit of Z and Y, {:?}, is not that of their composition, {:?}", fit.reply, zy.reply))
     } else {
         None
     }

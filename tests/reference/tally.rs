@@ -1,4 +1,4 @@
-//! The count of what passed and failed, and how often each outcome occurred.
+//! The count of what passed and failed, how often each outcome occurred, and which ones have to.
 
 use std::collections::BTreeMap;
 use std::panic::Location;
@@ -8,6 +8,8 @@ pub struct Tally {
     passed: u64,
     failed: u64,
     seen: BTreeMap<String, u64>,
+    /// Holds how often an outcome has to occur.
+    asked: BTreeMap<String, u64>,
     in_case: bool,
     /// Holds the first failure of the case that runs.
     failure: Option<Failure>,
@@ -56,19 +58,35 @@ impl Tally {
         *self.seen.entry(outcome.to_string()).or_default() += times;
     }
 
-    /// An outcome that can occur has to: a comparison that never meets it would say nothing about it.
+    /// Asks, before the cases run, for an outcome that can occur: a comparison that never meets it would say nothing about it.
     pub fn must_have_seen(&mut self, outcome: &str) {
         self.must_have_seen_at_least(outcome, 1);
     }
 
-    /// An outcome that a comparison is about has to be frequent.
+    /// Asks that an outcome which a comparison is about is frequent.
     pub fn must_have_seen_at_least(&mut self, outcome: &str, times: u64) {
-        let seen = self.seen.get(outcome).copied().unwrap_or_default();
-        self.check(seen >= times, || format!("the outcome '{outcome}' occurred {seen} times, expected at least {times}"));
+        self.asked.insert(outcome.to_string(), times);
     }
 
-    /// Prints the outcomes and the last line; whether all passed.
-    pub fn finish(self) -> bool {
+    /// Tells whether nothing failed so far, and yet an outcome that is asked for has not occurred.
+    pub fn has_more_to_see(&self) -> bool {
+        self.failed == 0 && self.asked.iter().any(|(outcome, times)| self.times_seen(outcome) < *times)
+    }
+
+    fn times_seen(&self, outcome: &str) -> u64 {
+        self.seen.get(outcome).copied().unwrap_or_default()
+    }
+
+    fn check_outcomes(&mut self) {
+        for (outcome, times) in std::mem::take(&mut self.asked) {
+            let seen = self.times_seen(&outcome);
+            self.check(seen >= times, || format!("the outcome '{outcome}' occurred {seen} times, expected at least {times}"));
+        }
+    }
+
+    /// Checks that the outcomes asked for occurred, and prints all outcomes and the last line; whether all passed.
+    pub fn finish(mut self) -> bool {
+        self.check_outcomes();
         for (outcome, times) in &self.seen {
             println!("{times:>9} {outcome}");
         }
