@@ -45,6 +45,7 @@ mod reply;
 mod run_program;
 mod selftest;
 mod smaller;
+mod smaller_test;
 mod spellings;
 mod substitution;
 mod synth;
@@ -86,6 +87,7 @@ fn run(arguments: &[&str]) -> Option<bool> {
     let mut tally = Tally::default();
     println!("{what}, seed {seed}");
     match (*what, paths) {
+        ("smaller", []) => smaller_test::run(&cases, &mut tally),
         ("tables", []) => compare_tables::run(&cases, &mut tally),
         ("texts", []) => compare_texts::run(&cases, &mut tally),
         ("demand3", []) => demand3::run(&cases, &mut tally),
