@@ -1,7 +1,8 @@
 //! An independent implementation of document 01 and of S-2 to S-5 and S-9 of document 02, written from their words and by the plainest means, and
 //! comparisons of the archives and the programs with it. The rules are in `table` to `synth` and `reach`, the calls with their refusals in `calls`,
 //! `text`, `writer`, `program` and `lister`; what is tried comes from `random_tables` and `random_texts`, and `places` says which bad cells have to be
-//! among it, `orders` which steps of one state, `ways` which ends, `spellings` which names; the archives stand behind `archive`.
+//! among it, `orders` which steps of one state, `ways` which ends, `spellings` which names; the archives stand behind `archive`. `cases` runs the cases
+//! of every comparison, and `smaller` finds the smallest that fails.
 //!
 //! Where document 01 is silent the reference follows docs/DECISIONS.md or the library, and says nothing on its own: the table that a refusal of a call
 //! on one table and of the writer names; a missing entry of the writer's names; what counts as a step in cells that no check has seen; what
@@ -9,6 +10,7 @@
 //! refused after the reading leaves its tables as a refused reading does; what `list` returns where it is lent too few bytes.
 //!
 //!     reference selftest CASES CLASHES                               the reference alone, on folders of expected output
+//!     reference smaller SEED COUNT [CASE]                            the search for the smallest failing case, on properties that are false
 //!     reference tables SEED COUNT [CASE]                             the calls on tables
 //!     reference texts SEED COUNT [CASE]                              reading, lookup, listing of clashes, writing, report
 //!     reference demand3 SEED COUNT [CASE]                            all small sequencers
@@ -17,7 +19,7 @@
 //!     reference substitution SEED COUNT [CASE]                       a part in the place of the one that it refines: the archive alone
 //!     reference program SEED COUNT FOLDER SEQUENCER CLASHES [CASE]   the two programs, run in a scratch folder
 //!
-//! With CASE that one case is run alone. The last line is 'N passed, M failed', and the exit status says the same.
+//! With CASE that one case is run alone; tests/reference.sh gives the other arguments. The last line is 'N passed, M failed', and the exit status says the same.
 
 mod archive;
 mod bytes;
@@ -68,7 +70,7 @@ fn main() -> ExitCode {
         Some(false) => ExitCode::FAILURE,
         None => {
             eprintln!("usage: reference selftest CASES CLASHES");
-            eprintln!("       reference tables|texts|demand3|flags|ends|substitution SEED COUNT [CASE]");
+            eprintln!("       reference smaller|tables|texts|demand3|flags|ends|substitution SEED COUNT [CASE]");
             eprintln!("       reference program SEED COUNT FOLDER SEQUENCER CLASHES [CASE]");
             ExitCode::from(2)
         }
