@@ -183,17 +183,24 @@ fn put(out: &mut [u8], text: &[u8]) -> usize {
     if text.len() <= room { text.len() } else { room + 1 }
 }
 
+/// Looks up every number in a quarter of the cases, else a few, since each lookup reads all again.
 pub fn compare_names(tally: &mut Tally, r: &mut Random) {
     let (module, plan) = text_pair(r);
     let plan = r.percent(70).then_some(plan);
-    compare_lookups(tally, r, &module, plan.as_deref());
+    let every = every_number();
+    let signals = if r.percent(25) { every } else { (0..6).map(|_| r.pick(&every)).collect() };
+    compare_lookups(tally, r, &module, plan.as_deref(), &signals);
 }
 
-/// Looks up every signal number, and some that are far too large, by both rules.
-pub fn compare_lookups(tally: &mut Tally, r: &mut Random, module: &[u8], plan: Option<&[u8]>) {
+/// Lists every signal number, and some numbers that are far too large.
+pub fn every_number() -> Vec<usize> {
+    (0..=SIGNALS).chain([64, 65_536, 1 << 32, usize::MAX]).collect()
+}
+
+/// Looks signals up by both rules.
+pub fn compare_lookups(tally: &mut Tally, r: &mut Random, module: &[u8], plan: Option<&[u8]>, signals: &[usize]) {
     for (name, rule) in [("name", Rule::Folded), (archived("name").as_str(), Rule::Exact)] {
-        let signals = (0..=SIGNALS).chain([64, 65_536, 1 << 32, usize::MAX]);
-        for signal in signals {
+        for &signal in signals {
             let mut expected: Lent<u8> = Lent::arbitrary(r, NAME_BYTES);
             let mut actual = expected.clone();
             let reply = look_up(rule, module, plan, signal, expected.part());

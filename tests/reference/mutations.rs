@@ -1,7 +1,7 @@
 //! Texts of the cases that were written by hand, with some bytes, fields and lines changed: the library and the programs against the reference.
 
 use crate::cases::Cases;
-use crate::compare_readings::{compare_lookups, compare_reading, room_to_lend};
+use crate::compare_readings::{compare_lookups, compare_reading, every_number, room_to_lend};
 use crate::compare_texts::{ask_for_refusals_of_readings, compare_report_of, less_room};
 use crate::program::PROGRAM;
 use crate::random::Random;
@@ -140,10 +140,10 @@ fn compare(r: &mut Random, tally: &mut Tally, texts: &Texts, runs: &Runs) {
     compare_reading(tally, r, (module, rooms[0]), Some((plan, rooms[1])));
     let is_sound = is_sound(texts);
     if !is_sound || r.percent(2) {
-        compare_lookups(tally, r, module, Some(plan));
+        compare_lookups(tally, r, module, Some(plan), &every_number());
     }
     if r.percent(3) {
-        compare_lookups(tally, r, alone, None);
+        compare_lookups(tally, r, alone, None, &every_number());
     }
     if !is_sound || r.percent(30) {
         let room = if r.percent(10) { less_room(r) } else { PROGRAM };
