@@ -13,7 +13,7 @@ const MOST_NAMED: usize = 8;
 const MOST_SHOWN: usize = 3;
 
 /// How many times its count of cases a run goes on for, at most, until all outcomes that are asked for have occurred; and after how many cases it looks.
-const MOST_TIMES: u64 = 20;
+const MOST_TIMES: u64 = 40;
 const MORE_CASES: u64 = 50;
 
 /// How many cases a comparison takes, and by which seed. `only` asks for one case alone.
@@ -93,7 +93,7 @@ thread_local! {
 }
 
 /// Runs a case; returns it if a check failed or it panicked.
-fn failing(mut r: Random, tally: &mut Tally, case: &mut impl FnMut(&mut Random, &mut Tally)) -> Option<Failing> {
+pub fn failing(mut r: Random, tally: &mut Tally, case: &mut impl FnMut(&mut Random, &mut Tally)) -> Option<Failing> {
     tally.begin_case();
     if catch_unwind(AssertUnwindSafe(|| case(&mut r, tally))).is_err() {
         tally.check(false, || PANIC.take());

@@ -106,10 +106,10 @@ fn some_case(r: &mut Random) -> Case {
 fn random_case(r: &mut Random) -> Case {
     let longest = r.pick(&[0, 7, 7, 40, 40, 40, 40, 600, 600, 5_000]);
     let length = if longest == 5_000 && r.percent(20) { MOST_PAIRS as usize } else { r.between(0, longest) };
-    let flag = |_| match r.below(3) {
-        0 => 1,
-        1 => 1 ^ 1 << r.below(8),
-        _ => r.below(256) as u8,
+    let flag = |_| match r.below(3 * BYTES) {
+        0..=255 => 1,
+        draw @ 256..=511 => 1 ^ 1 << (draw % 8),
+        draw => (draw % BYTES) as u8,
     };
     let flags = (0..length).map(flag).collect();
     Case { flags, start: r.below(WORD) }

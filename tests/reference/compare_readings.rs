@@ -186,14 +186,30 @@ fn put(out: &mut [u8], text: &[u8]) -> usize {
 pub fn compare_names(tally: &mut Tally, r: &mut Random) {
     let (module, plan) = text_pair(r);
     let plan = r.percent(70).then_some(plan);
-    compare_lookups(tally, r, &module, plan.as_deref());
+    compare_some_lookups(tally, r, &module, plan.as_deref());
 }
 
-/// Looks up every signal number, and some that are far too large, by both rules.
+/// Looks up every signal number in a quarter of the cases, else a few, as a lookup reads all again.
+pub fn compare_some_lookups(tally: &mut Tally, r: &mut Random, module: &[u8], plan: Option<&[u8]>) {
+    let all = looked_up();
+    let signals = if r.percent(25) { all } else { (0..6).map(|_| r.pick(&all)).collect() };
+    compare_lookups_of(tally, r, (module, plan), &signals);
+}
+
+/// Looks up every signal number.
 pub fn compare_lookups(tally: &mut Tally, r: &mut Random, module: &[u8], plan: Option<&[u8]>) {
+    compare_lookups_of(tally, r, (module, plan), &looked_up());
+}
+
+/// Every signal number, one more, and some that are far too large.
+fn looked_up() -> Vec<usize> {
+    (0..=SIGNALS).chain([64, 65_536, 1 << 32, usize::MAX]).collect()
+}
+
+/// Looks up these signal numbers by both rules.
+fn compare_lookups_of(tally: &mut Tally, r: &mut Random, (module, plan): (&[u8], Option<&[u8]>), signals: &[usize]) {
     for (name, rule) in [("name", Rule::Folded), (archived("name").as_str(), Rule::Exact)] {
-        let signals = (0..=SIGNALS).chain([64, 65_536, 1 << 32, usize::MAX]);
-        for signal in signals {
+        for &signal in signals {
             let mut expected: Lent<u8> = Lent::arbitrary(r, NAME_BYTES);
             let mut actual = expected.clone();
             let reply = look_up(rule, module, plan, signal, expected.part());

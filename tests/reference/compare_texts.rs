@@ -19,7 +19,7 @@ pub fn run(cases: &Cases, tally: &mut Tally) {
     if cases.are_at_least(1_000) {
         ask_for_all_outcomes(tally);
     }
-    cases.run(tally, |r, tally| match r.below(23) {
+    cases.run(tally, |r, tally| match r.below(24) {
         0..=5 => compare_alone(tally, r),
         6..=11 => compare_together(tally, r),
         12..=13 => compare_names(tally, r),
@@ -169,16 +169,16 @@ fn damage_name(r: &mut Random, name: &mut Vec<u8>) {
     *name = r.pick(NAMES).as_bytes().to_vec();
 }
 
-/// One name is bad, or equal or alike to another, or the names end early; mostly it is the name of a declared signal.
+/// One name is bad, or equal or alike to a declared signal's, or the names end early; mostly it is the name of a declared signal.
 fn damage_names(r: &mut Random, names: &mut Vec<Vec<u8>>, declared: u32) {
-    let mut places: Vec<usize> = members(declared).filter(|&signal| signal < names.len()).collect();
-    if places.is_empty() || r.percent(20) {
-        places = (0..names.len()).collect();
-    }
+    let all: Vec<usize> = (0..names.len()).collect();
+    let declared: Vec<usize> = members(declared).filter(|&signal| signal < names.len()).collect();
+    let places = if declared.is_empty() { &all } else { &declared };
     if places.is_empty() {
         return;
     }
-    let (one, other) = (r.pick(&places), r.pick(&places));
+    let is_any = r.percent(20);
+    let (one, other) = (r.pick(if is_any { &all } else { places }), r.pick(places));
     match r.below(10) {
         0..=1 => damage_name(r, &mut names[one]),
         2..=4 => names[one] = names[other].clone(),

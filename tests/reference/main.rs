@@ -1,8 +1,9 @@
 //! An independent implementation of document 01 and of S-2 to S-5 and S-9 of document 02, written from their words and by the plainest means, and
 //! comparisons of the archives and the programs with it. The rules are in `table` to `synth` and `reach`, the calls with their refusals in `calls`,
 //! `text`, `writer`, `program` and `lister`; what is tried comes from `random_tables` and `random_texts`, and `places` says which bad cells have to be
-//! among it, `orders` which steps of one state, `ways` which ends, `spellings` which names; the archives stand behind `archive`. Some comparisons do not
-//! ask the reference: `substitution`, `properties` and `readback` hold the archive to its own answers, which `answers` has.
+//! among it, `orders` which steps of one state, `ways` which ends, `spellings` which names; the archives stand behind `archive`. `cases` runs the cases
+//! of every comparison, and `smaller` finds the smallest that fails. Some comparisons do not ask the reference: `substitution`, `properties` and
+//! `readback` hold the archive to its own answers, which `answers` has.
 //!
 //! Where document 01 is silent the reference follows docs/DECISIONS.md or the library, and says nothing on its own: the table that a refusal of a call
 //! on one table and of the writer names; a missing entry of the writer's names; what counts as a step in cells that no check has seen; what
@@ -14,6 +15,7 @@
 //!     reference examples EXAMPLES --write                            writes what is worked out in each example: tables that are made, stdout
 //!     reference examples EXAMPLES FOLDER SEQUENCER                   the examples, and the program, run in a scratch folder
 //!     reference selftest CASES CLASHES                               what was worked out by hand: folders of texts, situations
+//!     reference smaller SEED COUNT [CASE]                            the search for the smallest failing case, on properties that are false
 //!     reference tables SEED COUNT [CASE]                             the calls on tables
 //!     reference texts SEED COUNT [CASE]                              reading, lookup, listing of clashes, writing, report
 //!     reference demand3 SEED COUNT [CASE]                            all small sequencers
@@ -26,7 +28,8 @@
 //!     reference mutations SEED COUNT CASES CLASHES FOLDER SEQUENCER CLASHES [CASE]
 //!                                                                    folders of texts with some bytes changed: reading and the two programs
 //!
-//! With CASE that one case is run alone. But for `print` and `list`, the last line is 'N passed, M failed', and the exit status says the same.
+//! With CASE that one case is run alone; tests/reference.sh gives the other arguments. But for `print` and `list`, the last line is 'N passed, M failed',
+//! and the exit status says the same.
 
 mod answers;
 mod archive;
@@ -63,6 +66,7 @@ mod run_program;
 mod selftest;
 mod situations;
 mod smaller;
+mod smaller_test;
 mod spellings;
 mod substitution;
 mod synth;
@@ -90,7 +94,7 @@ fn main() -> ExitCode {
             eprintln!("       reference selftest CASES CLASHES");
             eprintln!("       reference examples EXAMPLES FOLDER SEQUENCER");
             eprintln!("       reference examples EXAMPLES --write");
-            eprintln!("       reference tables|texts|demand3|flags|ends|substitution|properties|readback SEED COUNT [CASE]");
+            eprintln!("       reference smaller|tables|texts|demand3|flags|ends|substitution|properties|readback SEED COUNT [CASE]");
             eprintln!("       reference program SEED COUNT FOLDER SEQUENCER CLASHES [CASE]");
             eprintln!("       reference mutations SEED COUNT CASES CLASHES FOLDER SEQUENCER CLASHES [CASE]");
             ExitCode::from(2)
@@ -120,6 +124,7 @@ fn run(arguments: &[&str]) -> Option<bool> {
     let mut tally = Tally::default();
     println!("{what}, seed {seed}");
     match (*what, paths) {
+        ("smaller", []) => smaller_test::run(&cases, &mut tally),
         ("tables", []) => compare_tables::run(&cases, &mut tally),
         ("texts", []) => compare_texts::run(&cases, &mut tally),
         ("demand3", []) => demand3::run(&cases, &mut tally),

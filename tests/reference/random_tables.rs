@@ -31,7 +31,10 @@ pub fn sizes(r: &mut Random) -> Sizes {
     const LARGE: &[Sizes] = &[(64, 64), (4_096, 1), (1, 4_096), (32, 128), (2, 2_048), (1_365, 3)];
     const TOO_LARGE: &[Sizes] = &[(17, 241), (64, 65), (4_096, 2), (1_024, 1_024), (257, 255)];
     match r.below(1_000) {
-        0..=939 => (r.between(1, 6), r.between(1, 6)),
+        0..=939 => {
+            let both = r.below(6 * 6);
+            (1 + both / 6, 1 + both % 6)
+        }
         940..=974 => (r.between(1, 24), r.between(1, 24)),
         975..=989 => r.pick(TOO_LARGE),
         990..=994 => {
@@ -99,10 +102,12 @@ pub fn three_tables(r: &mut Random) -> [Table; 3] {
         let states = r.between(1, 4);
         Table::blank(states, r.below(states), 0, 0)
     });
-    for signal in some_signals(r) {
+    let mut signals: Vec<usize> = Vec::new();
+    for number in 0..r.between(1, 6) {
+        signals.extend(free_signal(r, &signals));
         let sender = r.below(4);
         for (place, table) in tables.iter_mut().enumerate() {
-            declare(table, signal, if place == sender { Output } else { r.pick(&[Input, Absent]) });
+            declare(table, signals[number], if place == sender { Output } else { r.pick(&[Input, Absent]) });
         }
     }
     tables.iter_mut().for_each(|table| add_steps(r, table));
@@ -157,21 +162,21 @@ fn blank_pair(r: &mut Random, (first, second): Sizes, roles: &Roles, odd_roles: 
     let mut a = Table::blank(first, r.below(first), 0, 0);
     let mut b = Table::blank(second, r.below(second), 0, 0);
     let is_odd = r.percent(6);
-    for (place, signal) in some_signals(r).into_iter().enumerate() {
+    let count = if r.percent(4) { r.pick(&[0, 1, 31, 32]) } else { r.between(1, 6) };
+    let mut signals: Vec<usize> = Vec::new();
+    for place in 0..count {
+        signals.extend(free_signal(r, &signals));
         let (to_a, to_b) = r.pick(if is_odd && place == 0 { odd_roles } else { roles });
-        declare(&mut a, signal, to_a);
-        declare(&mut b, signal, to_b);
+        declare(&mut a, signals[place], to_a);
+        declare(&mut b, signals[place], to_b);
     }
     (a, b)
 }
 
-/// Some of the 32 signals, mostly few, at times all.
-fn some_signals(r: &mut Random) -> Vec<usize> {
-    let mut signals: Vec<usize> = (0..SIGNALS).collect();
-    r.shuffle(&mut signals);
-    let count = if r.percent(4) { r.pick(&[0, 1, 31, 32]) } else { r.between(1, 6) };
-    signals.truncate(count);
-    signals
+/// Draws one of the 32 signals; where it is taken, the next that is free.
+fn free_signal(r: &mut Random, taken: &[usize]) -> Option<usize> {
+    let drawn = r.below(SIGNALS);
+    (drawn..SIGNALS).chain(0..drawn).find(|signal| !taken.contains(signal))
 }
 
 fn declare(table: &mut Table, signal: usize, role: Role) {

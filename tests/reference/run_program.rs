@@ -176,7 +176,7 @@ fn random_files(r: &mut Random) -> (Content, Content) {
         10 => (of_states(1), Bytes(text_of_length(65_536))),
         11 => (of_states(1), Bytes(text_of_length(65_537))),
         12 => (Bytes(Vec::new()), plan),
-        13 => (module, Bytes(Vec::new())),
+        13 => (of_states(1), Bytes(Vec::new())),
         14 => (of_states(1_025), plan),
         15 => (of_states(1_024), of_states(1_025)),
         16 => (of_states(1_024), of_states(1_024)),

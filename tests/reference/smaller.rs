@@ -9,6 +9,9 @@ use std::time::{Duration, Instant};
 const MOST_TRIES: u32 = 20_000;
 const MOST_TIME: Duration = Duration::from_secs(2);
 
+/// Up to this length a block of draws may be what belongs to one thing, wherever it begins.
+const SHORT: usize = 8;
+
 /// A case that fails, and all that it drew.
 pub struct Failing {
     pub draws: Vec<u64>,
@@ -47,23 +50,24 @@ impl<A: FnMut(Vec<u64>) -> Option<Failing>> Search<A> {
         self.tries >= MOST_TRIES || self.start.elapsed() >= MOST_TIME
     }
 
-    /// Replaces blocks of draws, long ones first and those of one length from the last to the first.
+    /// Replaces blocks of draws, long ones first.
     fn replace_blocks(&mut self, replacement: fn(usize) -> Vec<u64>) {
         let mut length = self.best.draws.len();
         while length > 0 {
             self.replace_blocks_of(length, replacement);
-            length /= 2;
+            length = if length > SHORT { (length / 2).max(SHORT) } else { length - 1 };
         }
     }
 
+    /// Replaces blocks of one length, from the last to the first; long ones stand side by side, short ones anywhere.
     fn replace_blocks_of(&mut self, length: usize, replacement: fn(usize) -> Vec<u64>) {
         let mut end = self.best.draws.len();
-        while end > 0 {
-            let start = end.saturating_sub(length);
+        while end >= length {
             let mut draws = self.best.draws.clone();
-            draws.splice(start..end, replacement(end - start));
-            self.keep(draws);
-            end = start.min(self.best.draws.len());
+            draws.splice(end - length..end, replacement(length));
+            let is_kept = self.keep(draws);
+            end -= if is_kept || length > SHORT { length } else { 1 };
+            end = end.min(self.best.draws.len());
         }
     }
 
@@ -87,8 +91,7 @@ impl<A: FnMut(Vec<u64>) -> Option<Failing>> Search<A> {
     /// Makes one draw smaller and drops a block behind it: a draw may say how many others follow.
     fn lower_and_drop(&mut self, place: usize) {
         let count = self.best.draws.len();
-        let lengths = (0..).map(|power| 1 << power).take_while(|&length| length < count);
-        let blocks = lengths.flat_map(|length| (place + 1..count).map(move |start| start..start + length));
+        let blocks = (1..=SHORT).flat_map(|length| (place + 1..count).map(move |start| start..start + length));
         for block in blocks.filter(|block| block.end <= count) {
             let Some(&draw) = self.best.draws.get(place) else { return };
             let smaller = [0, draw / 2, draw.saturating_sub(1)];
