@@ -74,10 +74,8 @@ compare() {
 
 echo "reference: seed $seed"
 try "comparison compiles" bash tests/compile_reference.sh "$work/reference"
-if [ -z "$only" ]; then
-    run selftest tests/cases tests/clash
-    run examples examples "$work/run" target/bin/sequencer
-fi
+[ -n "$only" ] || run selftest tests/cases tests/clash
+[ -n "$only" ] || run examples examples "$work/run" target/bin/sequencer
 compare smaller 100
 compare tables 100000
 compare texts 25000

@@ -183,22 +183,31 @@ fn put(out: &mut [u8], text: &[u8]) -> usize {
     if text.len() <= room { text.len() } else { room + 1 }
 }
 
-/// Looks up every number in a quarter of the cases, else a few, since each lookup reads all again.
 pub fn compare_names(tally: &mut Tally, r: &mut Random) {
     let (module, plan) = text_pair(r);
     let plan = r.percent(70).then_some(plan);
-    let every = every_number();
-    let signals = if r.percent(25) { every } else { (0..6).map(|_| r.pick(&every)).collect() };
-    compare_lookups(tally, r, &module, plan.as_deref(), &signals);
+    compare_some_lookups(tally, r, &module, plan.as_deref());
 }
 
-/// Lists every signal number, and some numbers that are far too large.
-pub fn every_number() -> Vec<usize> {
+/// Looks up every signal number in a quarter of the cases, else a few, as a lookup reads all again.
+pub fn compare_some_lookups(tally: &mut Tally, r: &mut Random, module: &[u8], plan: Option<&[u8]>) {
+    let all = looked_up();
+    let signals = if r.percent(25) { all } else { (0..6).map(|_| r.pick(&all)).collect() };
+    compare_lookups_of(tally, r, (module, plan), &signals);
+}
+
+/// Looks up every signal number.
+pub fn compare_lookups(tally: &mut Tally, r: &mut Random, module: &[u8], plan: Option<&[u8]>) {
+    compare_lookups_of(tally, r, (module, plan), &looked_up());
+}
+
+/// Every signal number, one more, and some that are far too large.
+fn looked_up() -> Vec<usize> {
     (0..=SIGNALS).chain([64, 65_536, 1 << 32, usize::MAX]).collect()
 }
 
-/// Looks signals up by both rules.
-pub fn compare_lookups(tally: &mut Tally, r: &mut Random, module: &[u8], plan: Option<&[u8]>, signals: &[usize]) {
+/// Looks up these signal numbers by both rules.
+fn compare_lookups_of(tally: &mut Tally, r: &mut Random, (module, plan): (&[u8], Option<&[u8]>), signals: &[usize]) {
     for (name, rule) in [("name", Rule::Folded), (archived("name").as_str(), Rule::Exact)] {
         for &signal in signals {
             let mut expected: Lent<u8> = Lent::arbitrary(r, NAME_BYTES);

@@ -1,9 +1,9 @@
 //! An independent implementation of document 01 and of S-2 to S-5 and S-9 of document 02, written from their words and by the plainest means, and
 //! comparisons of the archives and the programs with it. The rules are in `table` to `synth` and `reach`, the calls with their refusals in `calls`,
 //! `text`, `writer`, `program` and `lister`; what is tried comes from `random_tables` and `random_texts`, and `places` says which bad cells have to be
-//! among it, `orders` which steps of one state, `ways` which ends, `spellings` which names; the archives stand behind `archive`. Some comparisons do not
-//! ask the reference: `substitution`, `properties` and `readback` hold the archive to its own answers, which `answers` has. `cases` runs the cases of
-//! every comparison, and `smaller` finds the smallest that fails.
+//! among it, `orders` which steps of one state, `ways` which ends, `spellings` which names; the archives stand behind `archive`. `cases` runs the cases
+//! of every comparison, and `smaller` finds the smallest that fails. Some comparisons do not ask the reference: `substitution`, `properties` and
+//! `readback` hold the archive to its own answers, which `answers` has.
 //!
 //! Where document 01 is silent the reference follows docs/DECISIONS.md or the library, and says nothing on its own: the table that a refusal of a call
 //! on one table and of the writer names; a missing entry of the writer's names; what counts as a step in cells that no check has seen; what

@@ -1,7 +1,7 @@
 //! Texts of the cases that were written by hand, with some bytes, fields and lines changed: the library and the programs against the reference.
 
 use crate::cases::Cases;
-use crate::compare_readings::{compare_lookups, compare_reading, every_number, room_to_lend};
+use crate::compare_readings::{compare_reading, compare_some_lookups, room_to_lend};
 use crate::compare_texts::{ask_for_refusals_of_readings, compare_report_of, less_room};
 use crate::program::PROGRAM;
 use crate::random::Random;
@@ -130,8 +130,8 @@ fn take_line(r: &mut Random, text: &mut Vec<u8>, other: &[u8]) {
     }
 }
 
-/// Reads one text alone and the two together, looks up names, lists clashes and reports. Not every case does all of it: to look up all names of a
-/// sound text takes a while, and so do the programs.
+/// Reads one text alone and the two together, looks up names, lists clashes and reports. Not every case does all of it: lookups in
+/// sound texts take a while, and so do the programs.
 fn compare(r: &mut Random, tally: &mut Tally, texts: &Texts, runs: &Runs) {
     let [module, plan] = texts;
     let rooms = [room_to_lend(r, module), room_to_lend(r, plan)];
@@ -139,11 +139,11 @@ fn compare(r: &mut Random, tally: &mut Tally, texts: &Texts, runs: &Runs) {
     compare_reading(tally, r, (alone, room), None);
     compare_reading(tally, r, (module, rooms[0]), Some((plan, rooms[1])));
     let is_sound = is_sound(texts);
-    if !is_sound || r.percent(2) {
-        compare_lookups(tally, r, module, Some(plan), &every_number());
+    if !is_sound || r.percent(5) {
+        compare_some_lookups(tally, r, module, Some(plan));
     }
-    if r.percent(3) {
-        compare_lookups(tally, r, alone, None, &every_number());
+    if r.percent(10) {
+        compare_some_lookups(tally, r, alone, None);
     }
     if !is_sound || r.percent(30) {
         let room = if r.percent(10) { less_room(r) } else { PROGRAM };

@@ -109,11 +109,11 @@ pub fn three_tables(r: &mut Random) -> [Table; 3] {
         Table::blank(states, r.below(states), 0, 0)
     });
     let mut signals: Vec<usize> = Vec::new();
-    for turn in 0..signal_count(r) {
+    for number in 0..r.between(1, 6) {
         signals.extend(free_signal(r, &signals));
         let sender = r.below(4);
         for (place, table) in tables.iter_mut().enumerate() {
-            declare(table, signals[turn], if place == sender { Output } else { r.pick(&[Input, Absent]) });
+            declare(table, signals[number], if place == sender { Output } else { r.pick(&[Input, Absent]) });
         }
     }
     tables.iter_mut().for_each(|table| add_steps(r, table));
