@@ -1,7 +1,7 @@
 //! What was worked out by hand: folders of cases, each with module.tab and plan.tab, or without one, and what is printed; and situations of tables.
 //! The reference is held to all of it; the archive is held to the situations, and to the reference on the texts of every folder.
 
-use crate::compare_readings::{compare_lookups, compare_reading, every_number};
+use crate::compare_readings::{compare_lookups, compare_reading};
 use crate::compare_texts::{ask_for_refusals_of_readings, compare_report_of, shown};
 use crate::program::PROGRAM;
 use crate::random::Random;
@@ -59,11 +59,11 @@ fn compare_calls(tally: &mut Tally, folder: &Path) {
 fn compare_texts(tally: &mut Tally, r: &mut Random, module: Option<&[u8]>, plan: Option<&[u8]>) {
     for text in [module, plan].into_iter().flatten() {
         compare_reading(tally, r, (text, PROGRAM.module_cells), None);
-        compare_lookups(tally, r, text, None, &every_number());
+        compare_lookups(tally, r, text, None);
     }
     if let (Some(module), Some(plan)) = (module, plan) {
         compare_reading(tally, r, (module, PROGRAM.module_cells), Some((plan, PROGRAM.plan_cells)));
-        compare_lookups(tally, r, module, Some(plan), &every_number());
+        compare_lookups(tally, r, module, Some(plan));
         compare_report_of(tally, r, module, plan, &PROGRAM);
     }
 }
