@@ -61,7 +61,7 @@ impl Cases<'_> {
     /// Says how to run a failed case again; one that runs alone is shown as it is.
     fn name(&self, number: u64, failing: &Failing) {
         let Cases { what, seed, .. } = self;
-        println!("failed: {what}, seed {seed}, case {number}; run again: tests/reference.sh {what} {seed} {number}");
+        println!("failed: {what}, seed {seed}, case {number}; run again: bash tests/reference.sh {what} {seed} {number}");
         if self.only.is_some() {
             println!("  {}", failing.failure.words);
         }
