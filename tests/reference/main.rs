@@ -19,7 +19,8 @@
 //!     reference substitution SEED COUNT [CASE]                       a part in the place of the one that it refines: the archive alone
 //!     reference program SEED COUNT FOLDER SEQUENCER CLASHES [CASE]   the two programs, run in a scratch folder
 //!
-//! With CASE that one case is run alone; tests/reference.sh gives the other arguments. The last line is 'N passed, M failed', and the exit status says the same.
+//! With CASE that one case is run alone: `bash tests/reference.sh tables SEED CASE` does so. The last line is 'N passed, M failed', and the exit status
+//! says the same.
 
 mod archive;
 mod bytes;
