@@ -29,7 +29,7 @@ is_number() {
     [[ $1 =~ ^(0|[1-9][0-9]{0,18})$ ]]
 }
 
-times=10 limit=600 only="" case=""
+times=10 limit=600 only="" number=""
 case "${1-}" in
     quick) times=1; shift ;;
     soak) times=200 limit=14400; set -- "${2-$(date +%s)}" "${@:3}" ;;
@@ -37,7 +37,7 @@ esac
 case $# in
     0) seed=$(seed_of_commit) ;;
     1) seed=$1 ;;
-    3) only=$1 seed=$2 case=$3; is_number "$case" || usage ;;
+    3) only=$1 seed=$2 number=$3; is_number "$number" || usage ;;
     *) usage ;;
 esac
 is_number "$seed" || usage
@@ -67,7 +67,7 @@ compare() {
     if [ -z "$only" ]; then
         run "$what" "$seed" "$((count * times / 10))" "$@"
     elif [ "$only" = "$what" ]; then
-        run "$what" "$seed" 1 "$@" "$case"
+        run "$what" "$seed" 1 "$@" "$number"
         only=done
     fi
 }

@@ -1,5 +1,5 @@
-//! The one driver of all random comparisons: it runs case after case, or one of them alone, names those that fail, and shows the smallest cases that it
-//! finds from them.
+//! The one driver of all random comparisons: it runs case after case, or one of them alone, names those that fail, and shows the smallest cases that
+//! it finds from them.
 
 use crate::random::Random;
 use crate::smaller::{smallest, Failing};
@@ -12,7 +12,7 @@ use std::panic::{catch_unwind, set_hook, take_hook, AssertUnwindSafe};
 const MOST_NAMED: usize = 8;
 const MOST_SHOWN: usize = 3;
 
-/// How many times its count of cases a run goes on for, at most, until all outcomes that are asked for have occurred; and after how many cases it looks.
+/// How many times its count of cases a run may take until all outcomes that are asked for have occurred, and after how many more it looks again.
 const MOST_TIMES: u64 = 40;
 const MORE_CASES: u64 = 50;
 
@@ -25,8 +25,8 @@ pub struct Cases<'a> {
 }
 
 impl Cases<'_> {
-    /// Runs the cases, and some more while outcomes that the tally is asked for are missing: so chance alone lets no run fail. A case draws everything
-    /// from its `Random`, so that seed and number repeat it.
+    /// Runs the cases, and some more while outcomes that the tally is asked for are missing: so chance alone lets no run fail. A case draws
+    /// everything from its `Random`, so that seed and number repeat it.
     pub fn run(&self, tally: &mut Tally, mut case: impl FnMut(&mut Random, &mut Tally)) {
         let hook = take_hook();
         set_hook(Box::new(|panic| PANIC.set(panic.to_string())));
@@ -61,7 +61,7 @@ impl Cases<'_> {
     /// Says how to run a failed case again; one that runs alone is shown as it is.
     fn name(&self, number: u64, failing: &Failing) {
         let Cases { what, seed, .. } = self;
-        println!("failed: {what}, seed {seed}, case {number}; run again: tests/reference.sh {what} {seed} {number}");
+        println!("failed: {what}, seed {seed}, case {number}; run again: bash tests/reference.sh {what} {seed} {number}");
         if self.only.is_some() {
             println!("  {}", failing.failure.words);
         }
@@ -72,19 +72,19 @@ impl Cases<'_> {
 fn show_smallest(failed: Vec<(u64, Failing)>, case: &mut impl FnMut(&mut Random, &mut Tally)) {
     let mut shown = Vec::new();
     for (number, failing) in failed {
-        let smaller = smallest(failing, |draws| self::failing(Random::of_draws(draws), &mut Tally::default(), case));
-        shown.push((smaller.failure.words.len(), number, smaller.failure));
+        let draws = failing.draws.clone();
+        let found = smallest(failing, |draws| self::failing(Random::of_draws(draws), &mut Tally::default(), case));
+        let how = if found.draws == draws { "as it is" } else { "made smaller" };
+        shown.push((format!("case {number}, {how}: {}", found.failure.words), found.failure.place));
     }
-    shown.sort_by_key(|&(length, number, _)| (length, number));
+    shown.sort_by_key(|(words, _)| words.len());
     let mut places = Vec::new();
-    shown.retain(|(_, _, failure)| {
-        let is_new = !places.contains(&failure.place);
-        places.push(failure.place);
+    shown.retain(|(_, place)| {
+        let is_new = !places.contains(place);
+        places.push(*place);
         is_new
     });
-    for (_, number, failure) in shown.iter().take(MOST_SHOWN) {
-        println!("case {number} made smaller: {}", failure.words);
-    }
+    shown.iter().take(MOST_SHOWN).for_each(|(words, _)| println!("{words}"));
 }
 
 thread_local! {

@@ -28,8 +28,8 @@
 //!     reference mutations SEED COUNT CASES CLASHES FOLDER SEQUENCER CLASHES [CASE]
 //!                                                                    folders of texts with some bytes changed: reading and the two programs
 //!
-//! With CASE that one case is run alone; tests/reference.sh gives the other arguments. But for `print` and `list`, the last line is 'N passed, M failed',
-//! and the exit status says the same.
+//! With CASE that one case is run alone: `bash tests/reference.sh tables SEED CASE` does so. But for `print` and `list`, the last line is
+//! 'N passed, M failed', and the exit status says the same.
 
 mod answers;
 mod archive;

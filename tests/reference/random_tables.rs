@@ -109,7 +109,7 @@ pub fn three_tables(r: &mut Random) -> [Table; 3] {
         Table::blank(states, r.below(states), 0, 0)
     });
     let mut signals: Vec<usize> = Vec::new();
-    for number in 0..r.between(1, 6) {
+    for number in 0..signal_count(r) {
         signals.extend(free_signal(r, &signals));
         let sender = r.below(4);
         for (place, table) in tables.iter_mut().enumerate() {

@@ -1,5 +1,5 @@
-//! Makes a failed case smaller. A case is what it draws, so the list of its draws is made shorter, and the draws in it smaller, as long as the same check
-//! fails; where a shorter list is used up, the case draws 0.
+//! Makes a failed case smaller. A case is what it draws, so the list of its draws is made shorter, and the draws in it smaller, as long as the same
+//! check fails; where a shorter list is used up, the case draws 0.
 
 use crate::tally::Failure;
 use std::ops::Range;
@@ -62,10 +62,8 @@ impl<A: FnMut(Vec<u64>) -> Option<Failing>> Search<A> {
     /// Replaces blocks of one length, from the last to the first; long ones stand side by side, short ones anywhere.
     fn replace_blocks_of(&mut self, length: usize, replacement: fn(usize) -> Vec<u64>) {
         let mut end = self.best.draws.len();
-        while end >= length {
-            let mut draws = self.best.draws.clone();
-            draws.splice(end - length..end, replacement(length));
-            let is_kept = self.keep(draws);
+        while end >= length && !self.is_over() {
+            let is_kept = self.keep(|draws| drop(draws.splice(end - length..end, replacement(length))));
             end -= if is_kept || length > SHORT { length } else { 1 };
             end = end.min(self.best.draws.len());
         }
@@ -80,9 +78,7 @@ impl<A: FnMut(Vec<u64>) -> Option<Failing>> Search<A> {
                 return;
             }
             let tried = if too_small.is_none() { 0 } else { least + (draw - least) / 2 };
-            let mut draws = self.best.draws.clone();
-            draws[place] = tried;
-            if !self.keep(draws) {
+            if !self.keep(|draws| draws[place] = tried) {
                 too_small = Some(tried);
             }
         }
@@ -95,21 +91,23 @@ impl<A: FnMut(Vec<u64>) -> Option<Failing>> Search<A> {
         for block in blocks.filter(|block| block.end <= count) {
             let Some(&draw) = self.best.draws.get(place) else { return };
             let smaller = [0, draw / 2, draw.saturating_sub(1)];
-            if self.best.draws.len() < count || draw == 0 || smaller.iter().any(|&to| self.keep_without(place, to, block.clone())) {
+            if draw == 0 || self.is_over() || smaller.iter().any(|&to| self.keep_without(place, to, block.clone())) {
                 return;
             }
         }
     }
 
     fn keep_without(&mut self, place: usize, to: u64, block: Range<usize>) -> bool {
-        let mut draws = self.best.draws.clone();
-        draws[place] = to;
-        draws.drain(block);
-        self.keep(draws)
+        self.keep(|draws| {
+            draws[place] = to;
+            draws.drain(block);
+        })
     }
 
-    /// Runs the case with this list, and keeps it if the same check fails and the list that is then drawn is smaller. Says whether it is.
-    fn keep(&mut self, draws: Vec<u64>) -> bool {
+    /// Changes the list, runs the case with it, and keeps what it draws if the same check fails and that is smaller. Says whether it is kept.
+    fn keep(&mut self, change: impl FnOnce(&mut Vec<u64>)) -> bool {
+        let mut draws = self.best.draws.clone();
+        change(&mut draws);
         if self.is_over() || !is_smaller(&draws, &self.best.draws) {
             return false;
         }

@@ -1,5 +1,5 @@
-//! The driver's own test. Properties that are known to be false are broken by some case of every seed; made smaller, that case has to be the least one there
-//! is, whatever the seed; and its number, or the list of its draws, has to give the same case again.
+//! The driver's own test. Properties that are known to be false are broken by some case of every seed; made smaller, that case has to be the least one
+//! there is, whatever the seed; and its number, or the list of its draws, has to give the same case again.
 
 use crate::cases::{failing, Cases};
 use crate::random::Random;
@@ -35,7 +35,8 @@ fn try_false(tally: &mut Tally, seed: u64, mut case: Case, least: &str) {
     };
     let again = [fails(Random::of_case(seed, number)), fails(Random::of_draws(first.draws.clone()))];
     let is_same = |again: &Failing| again.failure.words == first.failure.words && again.draws == first.draws;
-    tally.check(again.iter().flatten().filter(|again| is_same(again)).count() == 2, || format!("seed {seed}, case {number} is another when it runs again"));
+    let are_same = again.iter().flatten().filter(|again| is_same(again)).count() == again.len();
+    tally.check(are_same, || format!("seed {seed}, case {number} is another when it runs again"));
     let found = smallest(first, |draws| fails(Random::of_draws(draws))).failure.words;
     tally.check(found.lines().last() == Some(least), || format!("seed {seed}, case {number}: expected {least}, is {found}"));
 }
