@@ -94,7 +94,7 @@ static inline size_t moqresam_read_cell(const uint8_t *cells, size_t state, size
     return cell[0] + 256u * cell[1];
 }
 
-/* Writes a cell: `next` is the next state, or MOQRESAM_NO_STEP. The state and the signal have to exist. */
+/* Writes a cell: `next` is the next state, or MOQRESAM_NO_STEP, so 65,535 at most: it has 16 bits. The state and the signal have to exist. */
 static inline void moqresam_write_cell(uint8_t *cells, size_t state, size_t signal, size_t next)
 {
     uint8_t *cell = cells + moqresam_cell_start(state, signal);
