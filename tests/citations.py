@@ -1,8 +1,9 @@
 """What a document cites: a place, and names that are found there. The working directory is the top of the tree.
 
 A citation is a place in backticks, then, where names are cited, a colon and the names in backticks, parted by commas. A place is a file or folder
-(`tests/gate.sh`, `tests/cases`), a source of a crate without `crates/` and its extension (`theory/specs/Demand`), or a crate (`theory`). A name that is
-cited of a crate is declared in one of its sources alone: else the citation has to say in which."""
+(`tests/gate.sh`, `tests/cases`), a source of a crate without `crates/` and its extension (`theory/specs/Demand`), a part of a crate, which is its
+definitions, laws or code (`theory/specs`, `theory/proofs`, `theory/src`), or a crate (`theory`). A name that is cited of a crate or a part is declared in
+one of its sources alone: else the citation has to say in which."""
 import functools
 import glob
 import os
@@ -35,13 +36,14 @@ def has(path, name):
 
 @functools.lru_cache(maxsize=None)
 def paths(place):
-    """The paths that a place stands for, those of all its sources for a crate; none where there is no such place."""
+    """The paths that a place stands for, those of all its sources for a crate or a part of one; none where there is no such place."""
     if os.path.exists(place):
         return [place]
     crate, _, source = place.partition("/")
-    if source:
+    if source and source not in PARTS:
         return glob.glob(f"crates/{glob.escape(place)}{PARTS.get(source.split('/')[0], '')}")
-    return sorted(path for part, end in PARTS.items() for path in glob.glob(f"crates/{glob.escape(crate)}/{part}/**/*{end}", recursive=True))
+    parts = [source] if source else PARTS
+    return sorted(path for part in parts for path in glob.glob(f"crates/{glob.escape(crate)}/{part}/**/*{PARTS[part]}", recursive=True))
 
 
 def where(place, name):

@@ -7,11 +7,13 @@
 
 All holds if every place and name that the documents and the wrong programs cite is there; if no two rows have one id, and every id that a row or a wrong
 program names is a row; if every wrong program can be tried, and stands under each function whose contract it says it breaks; if two or more of its crate
-say so of every function of the library that another crate or C can call; and if no folder of crates/ is left out of crates.txt."""
+say so of every function of the library that another crate or C can call; if there are as many as docs/CLAIMS.md counts, so that none goes unseen; and if no
+folder of crates/ is left out of crates.txt."""
 import os
 import re
 import signal
 import sys
+from collections import Counter
 from typing import NamedTuple
 
 import functions
@@ -55,11 +57,14 @@ def rows(text, faults):
 
 
 def check_rows(found, faults):
-    """Looks at the words of the rows: all in backticks that says where a row is settled is a citation, and the rows that it speaks of are there."""
+    """Looks at the words of the rows: all in backticks that says where a row is settled is a citation, of a crate that of its definitions, laws or code;
+    and the rows that it speaks of are there."""
     requests = {row.split(".")[0] for row in found if "." in row}
     for row in found.values():
         left = CITATION.sub(lambda said: "" if said[2] or looks_like_a_path(said[1]) else said[0], row.settled)
         faults.extend(f"{CLAIMS}:{row.number}: {words} is no citation" for words in re.findall(r"`[^`]*`", left))
+        whole = [place for place, _ in cited(row.settled) if os.path.isdir(f"crates/{place}") and "/" not in place]
+        faults.extend(f"{CLAIMS}:{row.number}: of {crate} it is not said whether specs, proofs or src is meant" for crate in whole)
         for other in REQUIREMENT.findall(row.what + row.settled):
             if other not in found and other not in requests:
                 faults.append(f"{CLAIMS}:{row.number}: speaks of {other}, which is no row")
@@ -94,6 +99,9 @@ def check_program(crate, program, known, faults):
         why = list(faults_of(place, names))
         faults.extend(f"{name}: {fault}" for fault in why)
         held += len(names) - len(why)
+    for place, names in named_by(crate, program.fails):
+        defined = [one for one in names if any("/specs/" in path for path in where(place, one))]
+        faults.extend(f"{name}: {one} is a definition, which cannot fail" for one in defined)
     if program.function:
         changed, *others = broken_by(crate, program)
         runs = functions.stands_on(crate)
@@ -121,6 +129,14 @@ def check_programs(tried, known, faults):
     return held
 
 
+def check_counts(tried, text, faults):
+    """Holds the count of wrong programs in docs/CLAIMS.md to those that are tried."""
+    count = Counter(trial.crate for trial in tried for _ in trial.programs)
+    words = f"{sum(count.values())} wrong programs: " + ", ".join(f"{crate} {count[crate]}" for crate in sorted(count)) + "."
+    if words not in " ".join(text.split()):
+        faults.append(f"{CLAIMS}: does not say: {words}")
+
+
 def public_functions(faults):
     """Every function of the library that another crate or C can call, after its crate."""
     for crate in sorted(set(os.listdir("crates")) - INSTRUMENTS):
@@ -142,10 +158,12 @@ def check():
     """Looks at everything."""
     faults = []
     held = sum(held_by(document, faults) for document in DOCUMENTS)
-    known = rows(open(CLAIMS, encoding="utf-8").read(), faults)
+    text, tried = open(CLAIMS, encoding="utf-8").read(), list(trials())
+    known = rows(text, faults)
     check_rows(known, faults)
     check_folders(faults)
-    held += len(known) + check_programs(trials(), known, faults)
+    check_counts(tried, text, faults)
+    held += len(known) + check_programs(tried, known, faults)
     return tell(faults, held, f"{', '.join(DOCUMENTS)} and the wrong programs: {held} citations hold, {len(faults)} faults")
 
 

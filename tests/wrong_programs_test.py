@@ -5,7 +5,7 @@ import os
 import sys
 
 from citations import cited, faults_of
-from claims import CLAIMS, TOP, broken_by, check_program, check_programs, check_rows, rows
+from claims import CLAIMS, TOP, broken_by, check_counts, check_program, check_programs, check_rows, rows
 from verdict import tell
 from wrong_programs import WrongProgram, blocks, changed_by, is_well_formed, program, trials
 
@@ -69,6 +69,7 @@ SAID = [
     ("reach", "search", ["S-4.99"], "mark_reached", False),
     ("reach", "search", [], "mark_searched", False),
     ("reach", "search", [], "clear", False),
+    ("reach", "search", [], "mark_reached; specs/Ends: endsIn", False),
     ("reach", "search", [], "search", False),
     ("reach", "search", [], "mark_reached – as `search_65` is called", False),
     ("reach", "search", [], "src/library: mark_reached", False),
@@ -84,6 +85,9 @@ LINES = [
     ("the words `in` and `yes`, the file `target/bin/sequencer`", True),
     ("`theory/specs/Demand`: `Meets`, `exact`", False),
     ("`theory/specs/Demands`", False),
+    ("`theory/specs`: `Joint`; `theory/proofs`: `product-cells`", True),
+    ("`theory/specs`: `product-cells`", False),
+    ("`theory/proofs`: `Joint`", False),
     ("`theories`: `Joint`", False),
     ("`theory`: `reflexive`", False),
     ("`crates/theory/specs/Demand.rt`", False),
@@ -94,12 +98,13 @@ LINES = [
 
 # Rows, and whether they can stand together.
 ROWS = [
-    ("| P-1 | one | `theory`: `Joint` |\n| P-2 | by P-1 and S-4 | `theory`: `Meets`, as in S-4.1 |\n| S-4.1 | an end | `tests/gate.sh` |", True),
-    ("| P-1 | one | `theory`: `Joint` |\n| P-1 | two | `theory`: `Meets` |", False),
-    ("| P-1 | one | `theory`: `Joint` | edit theory/free_output |", False),
+    ("| P-1 | one | `theory/specs`: `Joint` |\n| P-2 | by P-1 and S-4 | `theory/specs`: `Meets`, as in S-4.1 |\n| S-4.1 | an end | `tests/gate.sh` |", True),
+    ("| P-1 | one | `theory/specs`: `Joint` |\n| P-1 | two | `theory/specs`: `Meets` |", False),
+    ("| P-1 | one | `theory/specs`: `Joint` | edit theory/free_output |", False),
     ("| P-1 | one | |", False),
-    ("| P-1 | as P-3 says | `theory`: `Joint` |", False),
-    ("| P-1 | one | `theory`: `Joint`, and so `Meets` |", False),
+    ("| P-1 | as P-3 says | `theory/specs`: `Joint` |", False),
+    ("| P-1 | one | `theory/specs`: `Joint`, and so `Meets` |", False),
+    ("| P-1 | one | `theory`: `Joint` |", False),
 ]
 
 
@@ -140,6 +145,13 @@ def is_missed(crate, function, known):
     return any(fault.endswith(f"break {function}") for fault in faults)
 
 
+def is_counted(path):
+    """Whether it is noticed that a file of wrong programs is gone."""
+    faults = []
+    check_counts([trial for trial in trials() if trial.path != path], open(CLAIMS, encoding="utf-8").read(), faults)
+    return bool(faults)
+
+
 def main():
     os.chdir(TOP)
     known = rows(open(CLAIMS, encoding="utf-8").read(), [])
@@ -149,6 +161,7 @@ def main():
     found += [(line, all(not list(faults_of(*one)) for one in cited(line)) == holds) for line, holds in LINES]
     found += [(text, holds_together(text) == holds) for text, holds in ROWS]
     found += [(each, is_missed(*each, known)) for each in [("sets", "width"), ("reader", "read_alone"), ("moqresam", "moqresam_refine")]]
+    found += [(path, is_counted(path)) for path in ("crates/faults/must-fail/rows_left_out.edit", "crates/stars/must-fail/wrong_figure.edit")]
     faults = [f"judged wrongly: {words}" for words, right in found if not right]
     return tell(faults, len(found), f"wrong programs, citations and rows: {len(found)} tried on the scripts that look at them, {len(faults)} faults")
 
