@@ -10,6 +10,8 @@ failed=0
 finished=no
 work=$(mktemp -d) || { echo "0 passed, 1 failed"; exit 1; }
 finish() {
+    # Ends a stage that still runs beside the others (stages.sh).
+    [ -z "${beside_group-}" ] || kill -- "-$beside_group" 2>/dev/null
     rm -rf "$work"
     if [ "$finished" != yes ]; then
         echo "$script: broken off"

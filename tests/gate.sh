@@ -17,14 +17,13 @@ counted "proofs" rt ci
 cp "$work/log" "$work/proofs"
 stage "edits" python3 tests/edits.py
 # No other stage needs this one, which takes longest.
-beside "$work/valgrind" python3 tests/cases.py valgrind -q --error-exitcode=9
+beside python3 tests/cases.py valgrind -q --error-exitcode=9
 counted "cases" python3 tests/cases.py
 stage "archives" bash tests/archives.sh
 counted "boundary" bash tests/boundary.sh
 counted "reference" bash tests/reference.sh
 stage "bench" bash bench/run.sh agree
-wait
-counted "cases under valgrind" said "$work/valgrind"
+counted_beside "cases under valgrind"
 
 python3 tests/times.py "$work/stages" "$work/proofs" || failed=$((failed + 1))
 finished=yes

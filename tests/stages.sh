@@ -21,14 +21,11 @@ stage() {
     fi
 }
 
-# counted NAME COMMAND..: a stage whose own last line is 'N passed, M failed'. It fails too if it has no such line, passes nothing, or has an
-# exit status that contradicts the line. What it printed stays in $work/log until the next one.
-counted() {
-    local name=$1 began=$SECONDS status line
-    shift
-    "$@" 2>&1 | tee "$work/log"
-    status=${PIPESTATUS[0]}
-    line=$(tail -n 1 "$work/log")
+# count NAME SECONDS STATUS FILE: counts a stage by the last line of what it printed, 'N passed, M failed'. It fails too if it has no such line, passes
+# nothing, or has an exit status that contradicts the line.
+count() {
+    local name=$1 seconds=$2 status=$3 line
+    line=$(tail -n 1 "$4")
     if [[ $line =~ ^(0|[1-9][0-9]{0,8})\ passed,\ (0|[1-9][0-9]{0,8})\ failed$ ]]; then
         local good=${BASH_REMATCH[1]} bad=${BASH_REMATCH[2]}
         if [ "$bad" -eq 0 ] && { [ "$status" -ne 0 ] || [ "$good" -eq 0 ]; }; then
@@ -36,21 +33,37 @@ counted() {
         fi
         passed=$((passed + good))
         failed=$((failed + bad))
-        end_stage "$name" "$((SECONDS - began))" "$good passed, $bad failed"
+        end_stage "$name" "$seconds" "$good passed, $bad failed"
     else
         failed=$((failed + 1))
-        end_stage "$name" "$((SECONDS - began))" "FAILED, no count"
+        end_stage "$name" "$seconds" "FAILED, no count"
     fi
 }
 
-# beside FILE COMMAND..: starts a command that runs beside the stages that follow. Behind `wait`, `said FILE` prints what it printed, and its
-# status is that of the command.
-beside() {
-    local file=$1
+# counted NAME COMMAND..: a stage that counts for itself. What it printed stays in $work/log until the next one.
+counted() {
+    local name=$1 began=$SECONDS status
     shift
-    { "$@" >"$file" 2>&1; echo $? >"$file.status"; } &
+    "$@" 2>&1 | tee "$work/log"
+    status=${PIPESTATUS[0]}
+    count "$name" "$((SECONDS - began))" "$status" "$work/log"
 }
-said() {
-    cat "$1"
-    return "$(cat "$1.status")"
+
+# beside COMMAND..: starts a stage that counts for itself and runs beside those that follow. It has a process group of its own, $beside_group, so that
+# it can be ended with all that it started.
+beside() {
+    local began=$SECONDS
+    set -m
+    { "$@" >"$work/beside" 2>&1 </dev/null; echo "$? $((SECONDS - began))" >"$work/ended"; } &
+    set +m
+    beside_group=$!
+}
+
+# counted_beside NAME: waits for that stage, shows what it printed, and counts it.
+counted_beside() {
+    local status=1 seconds=0
+    wait "$beside_group"
+    read -r status seconds <"$work/ended"
+    cat "$work/beside"
+    count "$1" "$seconds" "$status" "$work/beside"
 }
