@@ -21,7 +21,7 @@
 #define PAGE 4096u
 /* No frame is larger than the guard, so none can step over it. */
 #define GUARD ((size_t)4 << 20)
-#define ROOMY ((size_t)4 << 20)
+#define ROOMY ((size_t)2 << 20)
 /* The start of a thread rounds the top of its stack to a multiple of the first; a frame begins at a multiple of the second. */
 #define ROUNDING 64u
 #define FRAME_ROUNDING 16u
@@ -195,12 +195,12 @@ static int run(struct job job, size_t size)
 /* What a thread uses of its stack above the caller of a call: its start, and the caller's own. */
 static size_t above;
 
-/* Runs a call with more stack than it needs. */
+/* Runs a call with more stack than it needs. As much is spare, so that what the thread's own start and end touch lies above the caller. */
 static int run_roomy(call *what)
 {
-    struct job job = {what, 0};
+    struct job job = {what, ROOMY};
 
-    return run(job, ROOMY);
+    return run(job, 2 * ROOMY);
 }
 
 /* Runs a call with so much stack below its caller. Where a thread may not have so little, the rest is spare. */
