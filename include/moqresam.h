@@ -9,8 +9,8 @@
  *     moqresam_fit_reply r = moqresam_fit_tables(&a, &b, flags, sizeof flags);
  *     puts(r.number != MOQRESAM_ACCEPTED ? moqresam_refusal_text(r.number) : r.compatible ? "they fit" : "they do not fit");
  *
- * examples/bench.c is a whole program. `make archives` builds the archive; compile with -Iinclude and link with -Ltarget/staticlib -lmoqresam. The
- * words are document 01's; in brackets stands what the literature says.
+ * examples/bench.c is a whole program. `make archives` builds the archive; compile with -Iinclude, as C99 or C++11 or later (the header has inline
+ * functions), and link with -Ltarget/staticlib -lmoqresam. The words are document 01's; in brackets stands what the literature says.
  *
  * A call may be given any numbers and bytes: it ends with an answer or with a refusal. If several refusals apply, the first in the order of the
  * call's checks is given; for two tables, checks 1 to 6 of the first table come before those of the second. A refused call leaves the flags, the

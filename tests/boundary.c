@@ -627,7 +627,13 @@ static void test_refusal_texts(void)
 
     for (number = 0; number < 100; number++)
         check("a refusal's words", is_given(number) ? has_own_words(number) && !is_unknown(number) : is_unknown(number));
+    check("no refusal", strcmp(moqresam_refusal_text(MOQRESAM_ACCEPTED), "accepted") == 0);
     check("the largest number", is_unknown(UINT32_MAX));
+}
+
+static void test_version(void)
+{
+    check("the version", MOQRESAM_VERSION == 4);
 }
 
 int main(void)
@@ -643,6 +649,7 @@ int main(void)
     test_startup();
     test_tables();
     test_refusal_texts();
+    test_version();
     while (made_count > 0)
         free(made[--made_count]);
     printf("%d passed, %d failed\n", passed, failed);

@@ -1,7 +1,8 @@
 #!/usr/bin/env bash
-# The C boundary: compiles the header as C and as C++, and its example; holds its words for refusals to docs/REFERENCE.md; runs the C tests and the
-# bench program, each as built for release and under the address and undefined behaviour sanitizers, the bench program under valgrind too; and measures
-# the stack. The last line is 'N passed, M failed'. It is run after archives.sh. tests/reference compares the same calls with its own.
+# The C boundary: compiles the header as C and as C++, and its example; holds its words for refusals to docs/REFERENCE.md; builds the bench program as
+# README.md says; runs the C tests and the bench program, each as built for release and under the address and undefined behaviour sanitizers, the
+# bench program under valgrind too; and measures the stack. The last line is 'N passed, M failed'. It is run after archives.sh. tests/reference
+# compares the same calls with its own.
 script=boundary
 . "$(dirname -- "$0")/counted.sh" || { echo "0 passed, 1 failed"; exit 1; }
 
@@ -64,6 +65,14 @@ example_runs() {
     compile example "$work/example.c" && [ "$("$work/example")" = "they fit" ]
 }
 
+# README's line that builds the bench program. What it builds is put into $work; by its own name it could be built at the top, where git ignores it.
+readme_builds() {
+    local line name
+    line=$(sed -n 's/.*`\(gcc [^`]*examples\/bench\.c [^`]* -o [^` ]*\)`.*/\1/p' README.md)
+    name=${line##* }
+    grep -qxF "$name" .gitignore && [ ! -d "$name" ] && ${line% *} "$work/readme_bench" && bench_prints readme_bench
+}
+
 # The refusals' table and the header have the same numbers, with the same words.
 words_agree() {
     sed -n '/^| number | why |/,/^$/s/^| \([0-9]*\) | \([^|]*\) |.*/\1 \2/p' docs/REFERENCE.md >"$work/words"
@@ -75,6 +84,7 @@ try "header as C" gcc -std=c99 "${strict[@]}" -fsyntax-only -x c include/moqresa
 try "header as C++" g++ -std=c++11 "${strict[@]}" -fsyntax-only -x c++ include/moqresam.h
 try "header in two units" two_units
 try "header's example" example_runs
+try "bench builds by README's line" readme_builds
 try "words of refusals as in docs/REFERENCE.md" words_agree
 for program in tests/boundary examples/bench; do
     name=$(basename "$program")
