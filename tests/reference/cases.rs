@@ -1,6 +1,7 @@
 //! The one driver of all random comparisons: it runs case after case, or one of them alone, names those that fail, and shows the smallest cases that
 //! it finds from them.
 
+use crate::note::Note;
 use crate::random::Random;
 use crate::smaller::{smallest, Failing};
 use crate::tally::Tally;
@@ -22,6 +23,8 @@ pub struct Cases<'a> {
     pub seed: u64,
     pub count: u64,
     pub only: Option<u64>,
+    /// Takes the number of each case before it runs.
+    pub note: Note,
 }
 
 impl Cases<'_> {
@@ -36,7 +39,8 @@ impl Cases<'_> {
             failed.extend(self.run_some(next..next + MORE_CASES, tally, &mut case));
             next += MORE_CASES;
         }
-        show_smallest(failed, &mut case);
+        self.show_smallest(failed, &mut case);
+        self.note.clear();
         set_hook(hook);
     }
 
@@ -44,6 +48,7 @@ impl Cases<'_> {
     fn run_some(&self, numbers: Range<u64>, tally: &mut Tally, case: &mut impl FnMut(&mut Random, &mut Tally)) -> Vec<(u64, Failing)> {
         let mut failed = Vec::new();
         for number in numbers {
+            self.note.write(number);
             let failing = failing(Random::of_case(self.seed, number), tally, case);
             if let Some(failing) = failing.filter(|_| failed.len() < MOST_NAMED) {
                 self.name(number, &failing);
@@ -63,28 +68,29 @@ impl Cases<'_> {
         let Cases { what, seed, .. } = self;
         println!("failed: {what}, seed {seed}, case {number}; run again: bash tests/reference.sh {what} {seed} {number}");
         if self.only.is_some() {
-            println!("  {}", failing.failure.words);
+            println!("  {}", failing.words());
         }
     }
-}
 
-/// Makes the failed cases smaller, and shows one for each check that fails: the one of fewest words.
-fn show_smallest(failed: Vec<(u64, Failing)>, case: &mut impl FnMut(&mut Random, &mut Tally)) {
-    let mut shown = Vec::new();
-    for (number, failing) in failed {
-        let draws = failing.draws.clone();
-        let found = smallest(failing, |draws| self::failing(Random::of_draws(draws), &mut Tally::default(), case));
-        let how = if found.draws == draws { "as it is" } else { "made smaller" };
-        shown.push((format!("case {number}, {how}: {}", found.failure.words), found.failure.place));
+    /// Makes the failed cases smaller, and shows one for each check that fails: the one of fewest words.
+    fn show_smallest(&self, failed: Vec<(u64, Failing)>, case: &mut impl FnMut(&mut Random, &mut Tally)) {
+        let mut shown = Vec::new();
+        for (number, failing) in failed {
+            self.note.write(number);
+            let draws = failing.draws.clone();
+            let found = smallest(failing, |draws| self::failing(Random::of_draws(draws), &mut Tally::default(), case));
+            let how = if found.draws == draws { "as it is" } else { "made smaller" };
+            shown.push((format!("case {number}, {how}: {}", found.words()), found.failure.place));
+        }
+        shown.sort_by_key(|(words, _)| words.len());
+        let mut places = Vec::new();
+        shown.retain(|(_, place)| {
+            let is_new = !places.contains(place);
+            places.push(*place);
+            is_new
+        });
+        shown.iter().take(MOST_SHOWN).for_each(|(words, _)| println!("{words}"));
     }
-    shown.sort_by_key(|(words, _)| words.len());
-    let mut places = Vec::new();
-    shown.retain(|(_, place)| {
-        let is_new = !places.contains(place);
-        places.push(*place);
-        is_new
-    });
-    shown.iter().take(MOST_SHOWN).for_each(|(words, _)| println!("{words}"));
 }
 
 thread_local! {
@@ -95,9 +101,10 @@ thread_local! {
 /// Runs a case; returns it if a check failed or it panicked.
 pub fn failing(mut r: Random, tally: &mut Tally, case: &mut impl FnMut(&mut Random, &mut Tally)) -> Option<Failing> {
     tally.begin_case();
-    if catch_unwind(AssertUnwindSafe(|| case(&mut r, tally))).is_err() {
+    let has_panicked = catch_unwind(AssertUnwindSafe(|| case(&mut r, tally))).is_err();
+    if has_panicked {
         tally.check(false, || PANIC.take());
     }
     let failure = tally.end_case()?;
-    Some(Failing { draws: r.into_draws(), failure })
+    Some(Failing { draws: r.into_draws(), failure, has_panicked })
 }

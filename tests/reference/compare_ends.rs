@@ -1,5 +1,5 @@
-//! Compares what the archive finds reached in a table, and its count of ends, with the reference, and tries what holds of every answer. The tables have
-//! any cells, or are made by the archive of a module and a plan.
+//! Compares what the archive finds reached in a table, and its count of ends, with the reference, and tries what holds of every answer. The tables
+//! have any cells, or are made by the archive of a module and a plan.
 
 use crate::cases::Cases;
 use crate::compare_tables::wrong_length;
@@ -233,7 +233,8 @@ fn bound_case(r: &mut Random, states: usize) -> Case {
 
 const LONGEST: [usize; 3] = [64, 65, MOST_STATES];
 
-/// Takes the most that a search can have before it, twice for each number of states: a way through all states, in any order; and a step in every cell.
+/// Takes the most that a search can have before it, twice for each number of states: a way through all states, in any order; and a step in every
+/// cell.
 fn longest_case(r: &mut Random, number: usize) -> Case {
     let states = 1 + r.given(LONGEST[number / 2] - 1, MOST_STATES - 1);
     let table = if number % 2 == 0 { longest_way(r, states) } else { full_table(r, states) };

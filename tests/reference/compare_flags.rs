@@ -1,11 +1,11 @@
-//! The count of kept flags: eight at a time, one by one and from C, against the reference; and what holds of every count. Beside the flags stand bytes
-//! of 1, which no count may take. Words are taken four at a time, then one by one, and what is left singly: each of the three has to meet every byte at
-//! every place that it has.
+//! The count of kept flags: eight at a time, one by one and from C, against the reference; and what holds of every count. Beside the flags stand
+//! bytes of 1, which no count may take. Words are taken four at a time, then one by one, and what is left singly: each of the three has to meet
+//! every byte at every place that it has.
 
 use crate::cases::Cases;
 use crate::random::Random;
 use crate::table::MOST_PAIRS;
-use crate::tally::Tally;
+use crate::tally::{first_of, Tally};
 use crate::{archive, calls};
 use std::collections::BTreeSet;
 
@@ -46,7 +46,7 @@ pub fn run(cases: &Cases, tally: &mut Tally) {
         tally.saw(kind(&case));
         met.add(&case.flags);
         let fault = wrong_count(&case).or_else(|| broken_property(r, &case));
-        tally.check(fault.is_none(), || format!("{}, start {}\n  {:?}", fault.unwrap_or_default(), case.start, case.flags));
+        tally.check(fault.is_none(), || format!("{}, start {}\n  {}", fault.unwrap_or_default(), case.start, shown(&case.flags)));
     });
     if cases.are_at_least(BYTES as u64) {
         met.ask_for_all(tally);
@@ -81,6 +81,15 @@ fn placed(flags: &[u8]) -> impl Iterator<Item = (usize, u8)> + '_ {
     flags.iter().copied().enumerate()
 }
 
+/// Shows flags: where they are many, only those that are not 1, each with its place.
+fn shown(flags: &[u8]) -> String {
+    if flags.len() <= BLOCK + WORD + WORD {
+        return format!("{flags:?}");
+    }
+    let others: Vec<(usize, u8)> = placed(flags).filter(|(_, flag)| *flag != 1).collect();
+    format!("{} flags, all 1 but for {} (place, flag): {}", flags.len(), others.len(), first_of(&others))
+}
+
 fn kind(case: &Case) -> &'static str {
     match case.flags.len() {
         0 => EMPTY,
@@ -101,8 +110,8 @@ fn some_case(r: &mut Random) -> Case {
     }
 }
 
-/// Flags of 1 and others, those that differ from 1 in a single bit as frequent as the rest. Of the greatest lengths some are those of a fit with the most
-/// pairs.
+/// Flags of 1 and others, those that differ from 1 in a single bit as frequent as the rest. Of the greatest lengths some are those of a fit with
+/// the most pairs.
 fn random_case(r: &mut Random) -> Case {
     let longest = r.pick(&[0, 7, 7, 40, 40, 40, 40, 600, 600, 5_000]);
     let length = if longest == 5_000 && r.percent(20) { MOST_PAIRS as usize } else { r.between(0, longest) };

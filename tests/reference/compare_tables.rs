@@ -67,8 +67,8 @@ impl Case {
         if takes_bytes(self.call) { from_bytes(table, bytes) } else { table.clone() }
     }
 
-    /// Mends a cell of a table, and the bytes beside it, for the check that finds it bad: for 5 it gets a step to state 0, which 6 may still find bad,
-    /// for 6 no step.
+    /// Mends a cell of a table, and the bytes beside it, for the check that finds it bad: for 5 it gets a step to state 0, which 6 may still find
+    /// bad, for 6 no step.
     fn mend(&mut self, which: u32, Fault { number, state, signal }: Fault) {
         let (table, bytes) = if which == 2 { (&mut self.b, &mut self.b_bytes) } else { (&mut self.a, &mut self.a_bytes) };
         let place = state * SIGNALS + signal;

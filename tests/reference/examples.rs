@@ -94,7 +94,8 @@ fn paths_of(folder: &Path) -> Bytes {
     Ok(paths(&tables[0], &[tables[0].initial]).into_iter().flat_map(line).collect())
 }
 
-/// Lists the paths on from the last of the states that a table has been in: the signals, until there is no step, or the state is one of those before it.
+/// Lists the paths on from the last of the states that a table has been in: the signals, until there is no step, or the state is one of those
+/// before it.
 fn paths(table: &Table, states: &[usize]) -> Vec<Vec<usize>> {
     let (state, before) = states.split_last().expect("a path begins in a state");
     let steps: Vec<(usize, usize)> = members(table.signals()).filter_map(|signal| Some((signal, table.step(*state, signal)?))).collect();

@@ -12,7 +12,8 @@ impl<T: Copy + PartialEq + TryFrom<usize> + std::fmt::Debug> Lent<T> {
     pub fn arbitrary(r: &mut Random, length: usize) -> Lent<T> {
         let bound = r.pick(&[2, 5, 256]);
         let (shift, spacing) = (r.below(bound), r.between(1, 7));
-        // The contents begin anew after `bound` places: to copy what is there, twice as much each time, saves most of the time that a large buffer takes.
+        // The contents begin anew after `bound` places: to copy what is there, twice as much each time, saves most of the time that a large
+        // buffer takes.
         let mut contents: Vec<T> = (0..bound).filter_map(|place| T::try_from((place * spacing + shift) % bound).ok()).collect();
         while contents.len() < length + 2 * GUARD {
             contents.extend_from_within(..);

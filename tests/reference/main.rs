@@ -1,12 +1,12 @@
 //! An independent implementation of document 01 and of S-2 to S-5 and S-9 of document 02, written from their words and by the plainest means, and
 //! comparisons of the archives and the programs with it. The rules are in `table` to `synth` and `reach`, the calls with their refusals in `calls`,
-//! `text`, `writer`, `program` and `lister`; what is tried comes from `random_tables` and `random_texts`, and `places` says which bad cells have to be
-//! among it, `orders` which steps of one state, `ways` which ends, `spellings` which names; the archives stand behind `archive`. `cases` runs the cases
-//! of every comparison, and `smaller` finds the smallest that fails. Some comparisons do not ask the reference: `substitution`, `properties` and
-//! `readback` hold the archive to its own answers, which `answers` has.
+//! `text`, `writer`, `program` and `lister`; what is tried comes from `random_tables` and `random_texts`, and `places` says which bad cells have to
+//! be among it, `orders` which steps of one state, `ways` which ends, `spellings` which names; the archives stand behind `archive`. `cases` runs the
+//! cases of every comparison, `note` has the number of the one that runs, and `smaller` finds the smallest that fails. Some comparisons do not ask
+//! the reference: `substitution`, `properties` and `readback` hold the archive to its own answers, which `answers` has.
 //!
-//! Where document 01 is silent the reference follows docs/DECISIONS.md or the library, and says nothing on its own: the table that a refusal of a call
-//! on one table and of the writer names; a missing entry of the writer's names; what counts as a step in cells that no check has seen; what
+//! Where document 01 is silent the reference follows docs/DECISIONS.md or the library, and says nothing on its own: the table that a refusal of a
+//! call on one table and of the writer names; a missing entry of the writer's names; what counts as a step in cells that no check has seen; what
 //! `count_ends` and `mark_reached` do where the sizes do not agree; 10 where `report` is lent less than the program lends; that a report which is
 //! refused after the reading leaves its tables as a refused reading does; what `list` returns where it is lent too few bytes.
 //!
@@ -28,7 +28,8 @@
 //!     reference mutations SEED COUNT CASES CLASHES FOLDER SEQUENCER CLASHES [CASE]
 //!                                                                    folders of texts with some bytes changed: reading and the two programs
 //!
-//! With CASE that one case is run alone: `bash tests/reference.sh tables SEED CASE` does so. But for `print` and `list`, the last line is
+//! With CASE that one case is run alone: `bash tests/reference.sh tables SEED CASE` does so. Where the environment has REFERENCE_CASE, that file
+//! has the number of the case that runs. But for `print` and `list`, the last line is
 //! 'N passed, M failed', and the exit status says the same.
 
 mod answers;
@@ -47,6 +48,7 @@ mod fit;
 mod lent;
 mod lister;
 mod mutations;
+mod note;
 mod orders;
 mod places;
 mod product;
@@ -77,6 +79,7 @@ mod ways;
 mod writer;
 
 use crate::cases::Cases;
+use crate::note::Note;
 use crate::run_program::Runs;
 use crate::tally::Tally;
 use std::io::Write;
@@ -105,47 +108,62 @@ fn main() -> ExitCode {
 /// Whether all passed; nothing for arguments that make no sense.
 fn run(arguments: &[&str]) -> Option<bool> {
     match arguments {
-        ["selftest", cases, clashes] => return Some(selftest::run(Path::new(cases), Path::new(clashes))),
-        ["examples", examples, "--write"] => return Some(examples::write_anew(Path::new(examples))),
-        ["examples", examples, folder, sequencer] => return Some(examples::run(Path::new(examples), Path::new(folder), Path::new(sequencer))),
-        ["print", folder] => return Some(print(program::print, Path::new(folder))),
-        ["list", folder] => return Some(print(lister::print, Path::new(folder))),
-        _ => (),
+        ["selftest", cases, clashes] => Some(selftest::run(Path::new(cases), Path::new(clashes))),
+        ["examples", examples, "--write"] => Some(examples::write_anew(Path::new(examples))),
+        ["examples", examples, folder, sequencer] => Some(examples::run(Path::new(examples), Path::new(folder), Path::new(sequencer))),
+        ["print", folder] => Some(print(program::print, Path::new(folder))),
+        ["list", folder] => Some(print(lister::print, Path::new(folder))),
+        [what, seed, count, rest @ ..] => run_cases(what, seed.parse().ok()?, count.parse().ok()?, rest),
+        _ => None,
     }
-    let [what, seed, count, rest @ ..] = arguments else { return None };
-    let (seed, count): (u64, u64) = (seed.parse().ok()?, count.parse().ok()?);
-    let paths = match *what {
+}
+
+/// Runs the cases of a comparison, or one of them; `rest` has the paths that it takes, and that one.
+fn run_cases(what: &str, seed: u64, count: u64, rest: &[&str]) -> Option<bool> {
+    let paths = match what {
         "program" => 3,
         "mutations" => 5,
         _ => 0,
     };
     let (paths, only) = rest.split_at_checked(paths)?;
-    let cases = Cases { what, seed, count, only: one(only)? };
+    let cases = Cases { what, seed, count, only: one(only)?, note: Note::open() };
     let mut tally = Tally::default();
     println!("{what}, seed {seed}");
-    match (*what, paths) {
-        ("smaller", []) => smaller_test::run(&cases, &mut tally),
-        ("tables", []) => compare_tables::run(&cases, &mut tally),
-        ("texts", []) => compare_texts::run(&cases, &mut tally),
-        ("demand3", []) => demand3::run(&cases, &mut tally),
-        ("flags", []) => compare_flags::run(&cases, &mut tally),
-        ("ends", []) => compare_ends::run(&cases, &mut tally),
-        ("substitution", []) => substitution::run(&cases, &mut tally),
-        ("properties", []) => properties::run(&cases, &mut tally),
-        ("readback", []) => readback::run(&cases, &mut tally),
-        ("program", [folder, sequencer, clashes]) => {
-            if let Some(runs) = Runs::prepare(&mut tally, Path::new(folder), [sequencer, clashes].map(Path::new)) {
-                run_program::run(&cases, &mut tally, &runs);
-            }
-        }
-        ("mutations", [texts, clash_texts, folder, sequencer, clashes]) => {
-            if let Some(runs) = Runs::prepare(&mut tally, Path::new(folder), [sequencer, clashes].map(Path::new)) {
-                mutations::run(&cases, &mut tally, [texts, clash_texts].map(Path::new), &runs);
-            }
-        }
-        _ => return None,
+    match paths {
+        [] => compare_calls(&cases, &mut tally)?,
+        _ => compare_programs(&cases, &mut tally, paths)?,
     }
     Some(tally.finish())
+}
+
+/// Runs the programs, on texts of the cases or on hand-written ones that they change.
+fn compare_programs(cases: &Cases, tally: &mut Tally, paths: &[&str]) -> Option<()> {
+    let [hand_written @ .., folder, sequencer, clashes] = paths else { return None };
+    if let Some(runs) = Runs::prepare(tally, Path::new(folder), [sequencer, clashes].map(Path::new)) {
+        match hand_written {
+            [texts, clash_texts] => mutations::run(cases, tally, [texts, clash_texts].map(Path::new), &runs),
+            _ => run_program::run(cases, tally, &runs),
+        }
+    }
+    Some(())
+}
+
+/// Compares calls of the archives; nothing if there is no such comparison.
+fn compare_calls(cases: &Cases, tally: &mut Tally) -> Option<()> {
+    let run = match cases.what {
+        "smaller" => smaller_test::run,
+        "tables" => compare_tables::run,
+        "texts" => compare_texts::run,
+        "demand3" => demand3::run,
+        "flags" => compare_flags::run,
+        "ends" => compare_ends::run,
+        "substitution" => substitution::run,
+        "properties" => properties::run,
+        "readback" => readback::run,
+        _ => return None,
+    };
+    run(cases, tally);
+    Some(())
 }
 
 /// Prints what a program has to print in a folder.

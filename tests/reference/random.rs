@@ -1,5 +1,5 @@
-//! What a case draws: from a small seeded generator, so that seed and number alone repeat the case; or from a list of draws, so that a failed case can be
-//! made smaller by changing the list.
+//! What a case draws: from a small seeded generator, so that seed and number alone repeat the case; or from a list of draws, so that a failed case
+//! can be made smaller by changing the list.
 
 pub struct Random {
     source: Source,

@@ -5,8 +5,8 @@ use crate::random_tables::{busy_module_and_plan, module_and_plan, sizes, table_o
 use crate::table::{members, Table, SIGNALS};
 use crate::writer::{declaration_line, digits, line, step_line, text_of};
 
-/// Names for the 32 signals of a case. No two are the same, in any case of their letters, though some nearly are: in a byte at their end, in a prefix,
-/// or, as `0` and `p`, in the low five bits of a byte.
+/// Names for the 32 signals of a case. No two are the same, in any case of their letters, though some nearly are: in a byte at their end, in a
+/// prefix, or, as `0` and `p`, in the low five bits of a byte.
 pub fn good_names(r: &mut Random) -> Vec<Vec<u8>> {
     const ODD: &[&str] =
         &["a", "b", "p", "_", "__", "0", "00", "power", "power_", "poweri", "settled", "read", "start", "in", "out", "step", "table", "sp", "z"];

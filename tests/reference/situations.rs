@@ -38,20 +38,55 @@ struct Situation {
 }
 
 fn situations() -> Vec<Situation> {
-    let run = |name, yes, ends, first, (p, q)| Situation {
+    let run_elsewhere = Situation {
+        name: "run, from states 1 and 1",
+        module: table(3, 1, 1, 2, REF),
+        plan: table(5, 1, 4, 11, PLAN),
+        yes: false,
+        ends: 0,
+        first: 6,
+        ..run()
+    };
+    let none_elsewhere = |name, states, kept, first| Situation {
         name,
-        module: table(3, p, 1, 2, REF),
-        plan: table(5, q, 4, 11, PLAN),
-        yes,
+        module: table(states, states - 1, 1, 2, REF),
+        plan: table(states, states - 1, 1, 2, POWER_TWICE),
+        yes: true,
+        kept,
+        ends: 1,
+        first,
+        ..none()
+    };
+    vec![
+        run(),
+        run_elsewhere,
+        waits(),
+        none(),
+        none_elsewhere("none, from states 2 and 2", 3, 2, 8),
+        none_elsewhere("none, of 64 states each, from the last ones", 64, 3_906, 4_095),
+    ]
+}
+
+/// The run of document 01.
+fn run() -> Situation {
+    Situation {
+        name: "run",
+        module: table(3, 0, 1, 2, REF),
+        plan: table(5, 0, 4, 11, PLAN),
+        yes: true,
         rounds: 1,
         kept: 11,
-        ends,
-        first,
+        ends: 1,
+        first: 0,
         lists: (6, 9),
         steps: &[(0, START, 1), (1, POWER, 7), (3, READ, 4), (7, SETTLED, 13), (10, START, 11), (13, READ, 14)],
         is_dropped: |p, q| p == 1 && q != 2,
-    };
-    let waits = Situation {
+    }
+}
+
+/// A plan without `settled`: after `start` the sequencer only waits.
+fn waits() -> Situation {
+    Situation {
         name: "waits",
         module: table(3, 0, 1, 2, REF),
         plan: table(4, 0, 4, 11, PLAN_WITHOUT_SETTLED),
@@ -63,28 +98,24 @@ fn situations() -> Vec<Situation> {
         lists: (6, 9),
         steps: &[(0, START, 1), (2, READ, 3), (8, START, 9), (10, READ, 11)],
         is_dropped: |p, _| p == 1,
-    };
-    let none = |name, yes, ends, first, (states, initial, kept)| Situation {
-        name,
-        module: table(states, initial, 1, 2, REF),
-        plan: table(states, initial, 1, 2, POWER_TWICE),
-        yes,
+    }
+}
+
+/// A plan by which `power` comes twice: no sequencer meets it.
+fn none() -> Situation {
+    Situation {
+        name: "none",
+        module: table(3, 0, 1, 2, REF),
+        plan: table(3, 0, 1, 2, POWER_TWICE),
+        yes: false,
         rounds: 2,
-        kept,
-        ends,
-        first,
+        kept: 2,
+        ends: 0,
+        first: 0,
         lists: (3, 0),
         steps: &[],
         is_dropped: |p, q| p == 1 || q < 2,
-    };
-    vec![
-        run("run", true, 1, 0, (0, 0)),
-        run("run, from states 1 and 1", false, 0, 6, (1, 1)),
-        waits,
-        none("none", false, 0, 0, (3, 0, 2)),
-        none("none, from states 2 and 2", true, 1, 8, (3, 2, 2)),
-        none("none, of 64 states each, from the last ones", true, 1, 4_095, (64, 63, 3_906)),
-    ]
+    }
 }
 
 /// A call that is refused, with the cells and flags that it is lent.

@@ -1,7 +1,7 @@
 //! Makes a failed case smaller. A case is what it draws, so the list of its draws is made shorter, and the draws in it smaller, as long as the same
 //! check fails; where a shorter list is used up, the case draws 0.
 
-use crate::tally::Failure;
+use crate::tally::{first_of, Failure};
 use std::ops::Range;
 use std::time::{Duration, Instant};
 
@@ -16,6 +16,15 @@ const SHORT: usize = 8;
 pub struct Failing {
     pub draws: Vec<u64>,
     pub failure: Failure,
+    pub has_panicked: bool,
+}
+
+impl Failing {
+    /// Says what failed. A panic says nothing of the case, so the draws stand beside it.
+    pub fn words(&self) -> String {
+        let words = &self.failure.words;
+        if self.has_panicked { format!("{words}\n  draws {}", first_of(&self.draws)) } else { words.clone() }
+    }
 }
 
 /// The smallest case found so far. `again` runs the case with other draws, and returns it if it fails.

@@ -1,5 +1,5 @@
-//! The driver's own test. Properties that are known to be false are broken by some case of every seed; made smaller, that case has to be the least one
-//! there is, whatever the seed; and its number, or the list of its draws, has to give the same case again.
+//! The driver's own test. Properties that are known to be false are broken by some case of every seed; made smaller, that case has to be the least
+//! one there is, whatever the seed; and its number, or the list of its draws, has to give the same case again.
 
 use crate::cases::{failing, Cases};
 use crate::random::Random;

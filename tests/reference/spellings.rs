@@ -126,7 +126,8 @@ pub fn record_listing(tally: &mut Tally, module: &[u8], plan: &[u8], listing: &[
     let is_refused = rows.is_none();
     let rows = rows.unwrap_or_default();
     let neighbours = || rows.windows(2).map(|two| (two[0], two[1]));
-    let is_again = |row: &Row| row[0] == MODULE as usize && line_of(module, row[1]).and_then(declared).is_some_and(|name| names(plan).contains(&name));
+    let is_in_plan = |line: usize| line_of(module, line).and_then(declared).is_some_and(|name| names(plan).contains(&name));
+    let is_again = |row: &Row| row[0] == MODULE as usize && is_in_plan(row[1]);
     let has = |later: u32, first: u32| rows.iter().any(|row| (row[0], row[2]) == (later as usize, first as usize));
     let seen = [
         (NOTHING, listing.is_empty()),

@@ -23,6 +23,14 @@ pub struct Failure {
 
 const MOST_SHOWN: u64 = 20;
 
+/// Shows a list: the first of it, and how many more there are.
+pub fn first_of<T: std::fmt::Debug>(list: &[T]) -> String {
+    const MOST: usize = 100;
+    let more = list.len().saturating_sub(MOST);
+    let first = format!("{:?}", &list[..list.len() - more]);
+    if more == 0 { first } else { format!("{first} and {more} more") }
+}
+
 impl Tally {
     /// Counts one check. What it says of a failure is shown at once, for the first failures alone; within a case the driver shows it.
     #[track_caller]
@@ -77,14 +85,18 @@ impl Tally {
         self.seen.get(outcome).copied().unwrap_or_default()
     }
 
+    /// Asks for nothing where a check failed: no more cases are run for an outcome then.
     fn check_outcomes(&mut self) {
+        if self.failed > 0 {
+            return;
+        }
         for (outcome, times) in std::mem::take(&mut self.asked) {
             let seen = self.times_seen(&outcome);
             self.check(seen >= times, || format!("the outcome '{outcome}' occurred {seen} times, expected at least {times}"));
         }
     }
 
-    /// Checks that the outcomes asked for occurred, and prints all outcomes and the last line; whether all passed.
+    /// Checks that the outcomes asked for occurred if nothing failed, and prints all outcomes and the last line; whether all passed.
     pub fn finish(mut self) -> bool {
         self.check_outcomes();
         for (outcome, times) in &self.seen {

@@ -115,8 +115,8 @@ fn record(tally: &mut Tally, origin: &str, outcomes: &[(&str, bool)]) {
     }
 }
 
-/// Asks for all that can occur. A composition has no odd flags, stray cells or undeclared steps; under yes all that is reached is kept, and under none
-/// only the first state is reached.
+/// Asks for all that can occur. A composition has no odd flags, stray cells or undeclared steps; under yes all that is reached is kept, and under
+/// none only the first state is reached.
 pub fn ask(tally: &mut Tally) {
     let of_any = [
         FIRST, NO_END, SEVERAL, BY_INPUT, BY_OUTPUT, BY_UNDECLARED, STRAY_CELL, UNREACHED, DROPPED, ODD_FLAG, FIRST_DROPPED, LOOP, LAST_STEP,
