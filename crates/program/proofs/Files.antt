@@ -40,7 +40,7 @@ module _ {A : Type 0} (bound : ℕ) (long : 26 ≤ bound) (first second : File) 
       → Leaves bound out e out′ (text m′ p′) now (left m′ p′) → Runs now
   both-good i j a b m′ p′ em ep now w = rw (a, b, ← em, ← ep) w
 
--- The main program.
+-- The program `sequencer`.
 module _ (first second : File) (m p cm cp cells flags out : List ℕ) (e : ℕ) (out′ : List ℕ) where
   abbrev report : List ℕ → List ℕ → List ℕ
   report m p = reportText m p (length cm) (length cp) (length cells) (length flags)

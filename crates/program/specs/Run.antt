@@ -17,7 +17,7 @@ byFiles Unreadable second unreadable read = unreadable 1
 byFiles (Bytes i) Unreadable unreadable read = unreadable 2
 byFiles (Bytes i) (Bytes j) unreadable read = read i j
 
--- ---- the main program
+-- ---- the program `sequencer`
 
 -- All that is printed, where so many cells and flags are lent: one line with 24, before any text check; or the report.
 unfoldable pub programText : File → File → List ℕ → List ℕ → (cm cp cells flags : ℕ) → List ℕ
