@@ -16,10 +16,10 @@ stage "claims" python3 tests/claims.py
 counted "proofs" rt ci
 cp "$work/log" "$work/proofs"
 stage "edits" python3 tests/edits.py
-# No other stage needs this one, which takes longest.
-beside python3 tests/cases.py valgrind -q --error-exitcode=9
 counted "cases" python3 tests/cases.py
 stage "archives" bash tests/archives.sh
+# No other stage needs this one.
+beside python3 tests/cases.py valgrind -q --error-exitcode=9
 counted "boundary" bash tests/boundary.sh
 counted "reference" bash tests/reference.sh
 stage "bench" bash bench/run.sh agree
