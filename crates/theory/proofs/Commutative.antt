@@ -6,14 +6,15 @@ use Prim.Native.Nat.{ℕ, zero, suc, _*_, _/_, _%_, _<_, _≤_}
 use native.Mathlib.Omega.{arith}
 use lib.Dec.{T}
 use borrow.Author.Tests.{ne-eqb}
-use Rattle.theory.specs.Interface.{InterfaceAutomaton, action, Joint, Illegal, of-first, of-second, Incompatible, here, there, Between}
+use Rattle.theory.specs.Interface.{InterfaceAutomaton, sent, action, product, Joint, Illegal, of-first, of-second, Incompatible, here, there, Between}
 use Rattle.theory.specs.Closure as closure
 use Rattle.theory.specs.Numbered.{NumberedAutomaton, interface, WellFormed, Narrow, pair, productNext, illegal, incompatibility, compositionNumbered}
 use Rattle.theory.specs.Table.{code}
 use Rattle.theory.specs.Substitution.{swap, Commutes, swappedPair, swappedCell}
 use Rattle.theory.proofs.Options.{when-of, of-when}
+use Rattle.theory.proofs.Steps.{sent-swap}
 use Rattle.theory.proofs.Closure.{same-option, closure-shortest, rank-below, rounds-largest}
-use Rattle.theory.proofs.Numbering.{outputNext, split-pair, split-first, split-second, pair-lt, pair-split, pos, pairOf, product-of, of-product, illegal-of, composed-of, of-composed}
+use Rattle.theory.proofs.Numbering.{sentNext, split-pair, split-first, split-second, pair-lt, pair-split, pos, pairOf, product-of, of-product, illegal-of, composed-of, of-composed}
 
 -- ---- interface automata
 
@@ -31,7 +32,7 @@ module _ {X Y : InterfaceAutomaton} where
   incompatible-swap : (s : X .State × Y .State) → Incompatible X Y s → Incompatible Y X (swap s)
   incompatible-swap s (here i) = here (illegal-swap i)
   incompatible-swap s (there {t = t} a e d) =
-      there {t = swap t} a (record { sends = or-swap (X .output a) (Y .output a) (e .sends); joint = joint-swap a (e .joint) }) (incompatible-swap t d)
+      there {t = swap t} a (record { sends = sent-swap X Y a (e .sends); joint = joint-swap a (e .joint) }) (incompatible-swap t d)
 
 between-swap : {X Y : InterfaceAutomaton} {s t : X .State × Y .State} (a : ℕ) → Between X Y s a t → Between Y X (swap s) a (swap t)
 between-swap {s = s} {t = t} a b = record {
@@ -55,7 +56,7 @@ commutes Y Z = record {
 
 -- The walks of the search for incompatible pairs.
 abbrev Walk : NumberedAutomaton → NumberedAutomaton → ℕ → ℕ → ℕ → Type 0
-Walk M N width = closure.Walk (M .states * N .states) width (illegal M N width) (outputNext M N)
+Walk M N width = closure.Walk (M .states * N .states) width (illegal M N width) (sentNext M N)
 
 module _ (M N : NumberedAutomaton) (width : ℕ) (wM : WellFormed M) (wN : WellFormed N) (nM : Narrow width M) (nN : Narrow width N) where
   abbrev m : ℕ
@@ -95,9 +96,9 @@ module _ (M N : NumberedAutomaton) (width : ℕ) (wM : WellFormed M) (wN : WellF
   walk-swap : (r k : ℕ) → k < m * n → Walk M N width r k → Walk N M width r (swapped k)
   walk-swap r k h (closure.here b) = closure.here (seed-swap k h b)
   walk-swap r k h (closure.there {m = r′} {t = t} a l e h′ w) =
-      let (o, f) = when-of (M .output a || N .output a) (productNext M N k a) e in
+      let (o, f) = when-of (sent (product (interface M) (interface N)) a) (productNext M N k a) e in
       closure.there {t = swapped t} a l
-      (of-when (N .output a || M .output a) (productNext N M (swapped k) a) (or-swap (M .output a) (N .output a) o) (product-swap k a t h f))
+      (of-when (sent (product (interface N) (interface M)) a) (productNext N M (swapped k) a) (sent-swap (interface M) (interface N) a o) (product-swap k a t h f))
       (swapped-lt h′) (walk-swap r′ t h′ w)
 
   composed-swap : (k a t : ℕ) → k < m * n → compositionNumbered M N width .next k a ≡ some t
@@ -114,9 +115,9 @@ module _ (M N : NumberedAutomaton) (width : ℕ) (wM : WellFormed M) (wN : WellF
       → closure.rank (incompatibility N M width) (swappedPair (M .states) (N .states) k) ≡ some r
   unfolding incompatibility
   rank-swap k r h e =
-      let p = closure-shortest (M .states * N .states) width (illegal M N width) (outputNext M N) k r h .0 e in
+      let p = closure-shortest (M .states * N .states) width (illegal M N width) (sentNext M N) k r h .0 e in
       let h′ = swapped-lt M N width wM wN nM nN h in
-      closure-shortest (N .states * M .states) width (illegal N M width) (outputNext N M) (swappedPair (M .states) (N .states) k) r h′ .1 (record {
+      closure-shortest (N .states * M .states) width (illegal N M width) (sentNext N M) (swappedPair (M .states) (N .states) k) r h′ .1 (record {
         walk = walk-swap M N width wM wN nM nN r k h (p .walk);
         least = λ j w. p .least j (subst (Walk M N width j) (swapped-twice M N width wM wN nM nN h) (walk-swap N M width wN wM nN nM j _ h′ w));
       })
@@ -129,8 +130,8 @@ module _ (M N : NumberedAutomaton) (width : ℕ) (wM : WellFormed M) (wN : WellF
           → r ≤ closure.rounds (N .states * M .states) (incompatibility N M width)
       go zero e = omega arith
       go (suc r) e =
-          let (s, h, f) = rounds-largest (M .states * N .states) width (illegal M N width) (outputNext M N) r e in
-          rank-below (N .states * M .states) width (illegal N M width) (outputNext N M) _ r (swapped-lt M N width wM wN nM nN h) (rank-swap s r h f)
+          let (s, h, f) = rounds-largest (M .states * N .states) width (illegal M N width) (sentNext M N) r e in
+          rank-below (N .states * M .states) width (illegal N M width) (sentNext N M) _ r (swapped-lt M N width wM wN nM nN h) (rank-swap s r h f)
 
 -- Ranks, rounds and cells of the two compositions are the same, pairs swapped.
 pub record CommutesByNumber (M N : NumberedAutomaton) (width : ℕ) : Type 0 where

@@ -17,7 +17,7 @@ use Rattle.theory.specs.declared.Checked.{Checked}
 use Rattle.theory.specs.declared.Checked.the-variants.{Accepted, Refused}
 use Rattle.theory.specs.Bounded.{any, lowest}
 use Rattle.theory.specs.Table.{Table, cellAt}
-use Rattle.theory.specs.Checks.{Check, first, unlessRefused, declared, stray, isStray, isUndeclared, cellOf, check1, check2, check3, check4, check5, check6, tableChecks, monitorChecks, eachTable}
+use Rattle.theory.specs.Checks.{Check, refusalOf, first, unlessRefused, declared, stray, isStray, isUndeclared, cellOf, check1, check2, check3, check4, check5, check6, shapeChecks, tableChecks, monitorChecks, eachTable, sizeChecks, composableChecks, refinementChecks, synthesisChecks}
 use Rattle.theory.specs.Locations.{Stray, Undeclared, Precedes, FirstBad, NoneBad, called, Located, of-table, of-five, of-six, nowhere, LocatedIn, LocatedAt}
 use Rattle.theory.proofs.Tests.{and-left, and-right, and-both}
 use Rattle.theory.proofs.Bounded.{at-any}
@@ -29,9 +29,6 @@ use Rattle.theory.proofs.Lowest.{lowest-is}
 -- Whatever refusal the list gives has the property.
 abbrev pub Refuses : List Check → (Refusal → Type 0) → Type 0
 Refuses l P = (r : Refusal) → first l ≡ Refused r → P r
-
-abbrev pub refusalOf : Check → Refusal
-refusalOf c = record { number = c .number; table = c .table; location = c .location }
 
 module _ (P : Refusal → Type 0) where
   same-refusal : (r s : Refusal) → Refused r ≡ Refused s → P r → P s
@@ -85,7 +82,7 @@ unplaced-located five six (c ∷ l) u =
 
 -- 1 to 4 of a table, then other checks.
 pub shape-located : (five six : ℕ → Location → Type 0) (i : ℕ) (t : Table) (l : List Check) → Refuses l (Located five six)
-    → Refuses (check1 i t ∷ check2 i t ∷ check3 i t ∷ check4 i t ∷ l) (Located five six)
+    → Refuses (shapeChecks i t ++ l) (Located five six)
 shape-located five six i t l others =
     let by = one-refuses (Located five six) in
     by (check1 i t) _ (λ b. of-table (omega arith) (omega arith) refl) (λ _.
@@ -168,6 +165,20 @@ two-located p q l u =
     both-refuse Places (eachTable p q) l
     (both-refuse Places (tableChecks 1 p) (tableChecks 2 q) (table-located p (p ∷ q ∷ []) 1 refl) (table-located q (p ∷ q ∷ []) 2 refl))
     (unplaced-located _ _ l u)
+
+-- The calls on two tables.
+module _ (p q : Table) where
+  pub composable-located : (wrong : Bool) → Refuses (composableChecks p q wrong) (LocatedIn (p ∷ q ∷ []))
+  unfolding composableChecks sizeChecks
+  composable-located wrong = two-located p q _ tt
+
+  pub refinement-located : (marks : ℕ) → Refuses (refinementChecks p q marks) (LocatedIn (p ∷ q ∷ []))
+  unfolding refinementChecks sizeChecks
+  refinement-located marks = two-located p q _ tt
+
+  pub synthesis-located : (cells flags : ℕ) → Refuses (synthesisChecks p q cells flags) (LocatedIn (p ∷ q ∷ []))
+  unfolding synthesisChecks sizeChecks
+  synthesis-located cells flags = two-located p q _ tt
 
 -- The follower's checks.
 pub monitor-located : (i : ℕ) (t : Table) (s a : ℕ) → Refuses (monitorChecks i t s a) (LocatedAt t s a)

@@ -9,8 +9,8 @@ use Rattle.theory.specs.Interface.{Compatible}
 use Rattle.theory.specs.Bounded.{any, tabulate}
 use Rattle.theory.specs.Closure.{near, after}
 use Rattle.theory.specs.Numbered.{productNext, illegal, incompatibility, unmatched, unrelated, listConditionFails}
-use Rattle.theory.specs.Table.{Table, table, composition, refinement}
-use Rattle.theory.specs.Checks.{first, tableChecks, eachTable, compositionChecks}
+use Rattle.theory.specs.Table.{header, Table, table, composition, refinement}
+use Rattle.theory.specs.Checks.{first, inSome, overlapping, tableChecks, eachTable, sizeChecks, composableChecks, compositionChecks}
 use Rattle.theory.specs.Valid.{Valid}
 use Rattle.theory.specs.Substitution.{interfaceOf, PremisesNeeded, PairsMove}
 use Rattle.theory.proofs.Checks.{checks-valid}
@@ -19,7 +19,7 @@ use Rattle.theory.proofs.Verdicts.{compatible-tables, refines-tables}
 -- ---- the tables: the first state is 0, and a cell is a function of its place
 
 abbrev tableOf : ℕ → ℕ → ℕ → (ℕ → ℕ) → Table
-tableOf states inputs outputs cell = table (record { states = states; initial = 0; inputs = inputs; outputs = outputs }) (tabulate cell 0 (states * 32))
+tableOf states inputs outputs cell = table (header states 0 inputs outputs) (tabulate cell 0 (states * 32))
 
 abbrev no-step : ℕ → ℕ
 no-step k = 65535
@@ -62,7 +62,7 @@ sender-at-first = tableOf 2 0 1 loop
 -- ---- what they break
 
 pub premises-needed : PremisesNeeded
-unfolding tabulate any near after productNext illegal incompatibility unmatched unrelated listConditionFails composition refinement first tableChecks
+unfolding tabulate any near after productNext illegal incompatibility unmatched unrelated listConditionFails composition refinement first overlapping inSome tableChecks
 premises-needed =
     let taker-valid : Valid taker = checks-valid 1 taker .0 refl in
     let unready-valid : Valid unready = checks-valid 1 unready .0 refl in
@@ -86,7 +86,7 @@ premises-needed =
     }
 
 pub pairs-move : PairsMove
-unfolding tabulate any near after productNext illegal incompatibility composition first tableChecks eachTable compositionChecks
+unfolding tabulate any near after productNext illegal incompatibility composition first overlapping inSome tableChecks eachTable sizeChecks composableChecks compositionChecks
 pairs-move law =
     let e : _≡_ {A = ℕ} 1 0 = ap (λ l. getD l 2 0) (law taker-at-first sender-at-first (record { cells = 128; flags = 4; accepted = refl })) in
     omega arith

@@ -4,13 +4,13 @@ use mathlib.Core.Logic.{_⊎_, inl, inr}
 use mathlib.Core.Bool.{not, _&&_, _||_}
 use Prim.Native.Nat.{ℕ}
 use lib.Dec.{T, T-not}
-use Rattle.theory.specs.Interface.{InterfaceAutomaton, action, compose, Moves, steps, stays, Joint, Illegal, of-first, of-second, Incompatible, here, there, CompatiblePair, Compatible, RefinesBy, Deterministic}
+use Rattle.theory.specs.Interface.{InterfaceAutomaton, action, product, compose, Moves, steps, stays, Joint, Illegal, of-first, of-second, Incompatible, here, there, CompatiblePair, Compatible, RefinesBy, Deterministic}
 use Rattle.theory.specs.Numbered.{WellFormed}
 use Rattle.theory.specs.Table.{Table, automaton}
 use Rattle.theory.specs.Valid.{Valid}
 use Rattle.theory.specs.Substitution.{SameLists, Holds, interfaceOf, SubstitutionLaws}
-use Rattle.theory.proofs.Tests.{or-cases, or-left, or-right, and-right}
-use Rattle.theory.proofs.Steps.{Stable, step-of, compatible-on, second-accepts, first-accepts, compose-deterministic}
+use Rattle.theory.proofs.Tests.{or-cases, or-left, and-right}
+use Rattle.theory.proofs.Steps.{out-action, out-sent, sent-out, kinds, same-action, Stable, step-of, compatible-on, second-accepts, first-accepts, compose-deterministic}
 use Rattle.theory.proofs.Simulation.{match-input, match-output, matching, reflexive, transitive}
 use Rattle.theory.proofs.Numbering.{numbered-deterministic, numbered-stable}
 use Rattle.theory.proofs.Decided.{by-test, decided, compositions-decided}
@@ -19,8 +19,8 @@ use Rattle.theory.proofs.Commutative.{commutes}
 
 -- ---- automata with the same lists
 
-same-action : {X Y : InterfaceAutomaton} → SameLists X Y → (a : ℕ) → action X a ≡ action Y a
-same-action same a i = same .inputs a i || same .outputs a i
+same-actions : {X Y : InterfaceAutomaton} → SameLists X Y → (a : ℕ) → action X a ≡ action Y a
+same-actions {X} {Y} same a = same-action X Y (same .inputs) (same .outputs) a
 
 same-lists-sym : {X Y : InterfaceAutomaton} → SameLists X Y → SameLists Y X
 same-lists-sym same = record { inputs = λ a. sym (same .inputs a); outputs = λ a. sym (same .outputs a) }
@@ -29,15 +29,15 @@ module _ {X Y Z : InterfaceAutomaton} (same : SameLists X Y) (a : ℕ) {x x′ :
   -- Beside the same move of Z, Y steps or stays as X does.
   joint-step : T (action X a) → Y .step y a y′ → Joint Y Z (y, z) a (y′, z′)
   joint-step s n = record {
-    known = subst (λ b. T (b || action Z a)) (same-action same a) (j .known);
-    first = steps (subst T (same-action same a) s) n;
+    known = subst (λ b. T (b || action Z a)) (same-actions same a) (j .known);
+    first = steps (subst T (same-actions same a) s) n;
     second = j .second;
   }
 
   joint-stay : T (not (action X a)) → y ≡ y′ → Joint Y Z (y, z) a (y′, z′)
   joint-stay s e = record {
-    known = subst (λ b. T (b || action Z a)) (same-action same a) (j .known);
-    first = stays (subst (λ b. T (not b)) (same-action same a) s) e;
+    known = subst (λ b. T (b || action Z a)) (same-actions same a) (j .known);
+    first = stays (subst (λ b. T (not b)) (same-actions same a) s) e;
     second = j .second;
   }
 
@@ -55,7 +55,7 @@ module _ (X Y Z : InterfaceAutomaton) (cY : Stable Y) (cZ : Stable Z) (same : Sa
       sent : T (action X a) → T (X .output a) ⊎ (T (Y .input a) × T (Z .output a))
       sent s = elim (or-cases (X .output a) (Z .output a) t) [
         | inl o ↦ inl o
-        | inr o ↦ elim (or-cases (X .input a) (X .output a) s) [ inl i ↦ inr (subst T (same .inputs a) i, o) | inr u ↦ inl u ]
+        | inr o ↦ elim (kinds X a s) [ inl i ↦ inr (subst T (same .inputs a) i, o) | inr u ↦ inl (sent-out X a u) ]
       ]
 
       go : Moves X a x x′ → (y′ : Y .State) × Joint Y Z (y, z) a (y′, z′) × ρ x′ y′
@@ -63,7 +63,7 @@ module _ (X Y Z : InterfaceAutomaton) (cY : Stable Y) (cZ : Stable Z) (same : Sa
       go (steps s m) = elim (sent s) [
         | inl o ↦ let (y′, n, h′) = match-output (ref .simulation) a h o m in (y′, joint-step same a j s n, h′)
         | inr (i, o) ↦
-            let (y′, n) = first-accepts Y Z a cY k o i (z′, step-of (or-right (Z .input a) (Z .output a) o) (j .second)) in
+            let (y′, n) = first-accepts Y Z a cY k o i (z′, step-of (out-action Z a o) (j .second)) in
             (y′, joint-step same a j s n, ref .simulation .successors x x′ y y′ h a (or-left (Y .input a) (X .output a) i) m n)
       ]
 
@@ -80,8 +80,9 @@ module _ (X Y Z : InterfaceAutomaton) (cY : Stable Y) (cZ : Stable Z) (same : Sa
   incompatible-too : (s : X .State × Z .State) → Incompatible X Z s → (y : Y .State) → ρ (s .0) y → ¬ CompatiblePair Y Z (y, s .1)
   incompatible-too s (here i) y h k = legal h k i
   incompatible-too s (there {t = t} a e d) y h k =
-      let (y′, j, h′) = match-sent a h k (e .sends) (e .joint) in
-      incompatible-too t d y′ h′ (compatible-on Y Z a k (subst T (same-outputs a) (e .sends)) j)
+      let o : T (X .output a || Z .output a) = sent-out (product X Z) a (e .sends) in
+      let (y′, j, h′) = match-sent a h k o (e .joint) in
+      incompatible-too t d y′ h′ (compatible-on Y Z a k (out-sent (product Y Z) a (subst T (same-outputs a) o)) j)
 
   pub replaces-compatible : Compatible Y Z → Compatible X Z
   replaces-compatible fit d = incompatible-too (X .initial, Z .initial) d (Y .initial) (ref .initials) fit
@@ -92,8 +93,8 @@ module _ (X Y Z : InterfaceAutomaton) (cY : Stable Y) (cZ : Stable Z) (same : Sa
   match-taken {x} {y} {y′} {z} {z′} a h n j = go (j .first)
     where
       taken : T (action Y a) → T (Y .input a)
-      taken s = elim (or-cases (Y .input a) (Y .output a) s)
-          [ inl i ↦ i | inr o ↦ absurd (T-not (Y .output a || Z .output a) n (or-left (Y .output a) (Z .output a) o)) ]
+      taken s = elim (kinds Y a s)
+          [ inl i ↦ i | inr u ↦ absurd (T-not (Y .output a || Z .output a) n (or-left (Y .output a) (Z .output a) (sent-out Y a u))) ]
 
       go : Moves Y a y y′ → (x′ : X .State) × Joint X Z (x, z) a (x′, z′) × ρ x′ y′
       go (stays u e) = (x, joint-stay (same-lists-sym same) a j u refl, subst (λ u. ρ x u) e h)
@@ -119,7 +120,7 @@ module _ (X Y Z : InterfaceAutomaton) (cY : Stable Y) (cZ : Stable Z) (same : Sa
           );
       outputs = λ s s′ t h a o m.
           let (y′, j′, h′) = match-sent a (h .1) (h .2) o (m .joint) in
-          let k′ : CompatiblePair Y Z (y′, s′ .1) = compatible-on Y Z a (h .2) (subst T (same-outputs a) o) j′ in (
+          let k′ : CompatiblePair Y Z (y′, s′ .1) = compatible-on Y Z a (h .2) (out-sent (product Y Z) a (subst T (same-outputs a) o)) j′ in (
             (y′, s′ .1),
             record { joint = subst (λ u. Joint Y Z (t .0, u) a (y′, s′ .1)) (h .0) j′; source = subst (λ u. CompatiblePair Y Z (t .0, u)) (h .0) (h .2); target = k′ },
             (refl, h′, k′),

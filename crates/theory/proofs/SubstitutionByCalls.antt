@@ -1,5 +1,5 @@
 -- A better part in the same place (02: S-13), over the values that contracts equate replies and buffers with.
-use mathlib.Core.Path.{_≡_, sym, ap, ap₂, _∙_}
+use mathlib.Core.Path.{_≡_, refl, sym, ap, ap₂, _∙_}
 use mathlib.Core.Bool.{not}
 use mathlib.Core.Option.{Option}
 use Prim.Native.Nat.{ℕ, _*_, _<_, _≤_}
@@ -7,25 +7,21 @@ use native.Mathlib.Omega.{arith}
 use native.Mathlib.Nat.{mul-comm}
 use lib.Arith.{digits-lt, digits-div, digits-mod}
 use lib.Bits.{or-comm as bits-comm}
-use lib.Dec.{T, nltb→le, ltb→lt, not-T}
+use lib.Dec.{T}
 use lib.ListN.{getD}
-use borrow.Author.Tests.{eq-eqb}
 use Rattle.theory.specs.declared.Automaton.{Automaton}
 use Rattle.theory.specs.Bounded.{digit, tabulate}
 use Rattle.theory.specs.Closure.{isSome, rank, ranked}
 use Rattle.theory.specs.Numbered.{NumberedAutomaton, pair, productNumbered, incompatibility, compositionNumbered}
 use Rattle.theory.specs.Sets.{difference}
-use Rattle.theory.specs.Table.{Table, automaton, code, cellAt, composition, composedTable, refinement}
-use Rattle.theory.specs.Checks.{compositionChecks, refinementChecks}
-use Rattle.theory.specs.Valid.{Valid}
+use Rattle.theory.specs.Table.{Table, automaton, code, cellAt, pairCount, composition, composedTable, refinement}
+use Rattle.theory.specs.Valid.{Valid, ComposableTables}
 use Rattle.theory.specs.Substitution.{SameLists, interfaceOf, ComposeAccepts, RefineAccepts, AcceptedCalls, ReplacesByCalls, swappedPair, swappedCell, swappedHeader, CommutesByCalls, SubstitutionByCalls}
-use Rattle.theory.proofs.Tests.{and-left, and-right, and-both}
-use Rattle.theory.proofs.Bounded.{any-at, at-any, getD-tabulate-zero}
-use Rattle.theory.proofs.Sets.{member-lt}
+use Rattle.theory.proofs.Bounded.{getD-tabulate-zero}
 use Rattle.theory.proofs.Simulation.{transitive}
 use Rattle.theory.proofs.Decided.{by-test, decided}
 use Rattle.theory.proofs.Table.{table-narrow, table-well-formed, cell-of}
-use Rattle.theory.proofs.Checks.{both-passed}
+use Rattle.theory.proofs.Checks.{refinement-accepted, composition-accepted}
 use Rattle.theory.proofs.Verdicts.{composed-valid, composed-refines, composed-refined, compatible-tables, refines-tables}
 use Rattle.theory.proofs.Commutative.{CommutesByNumber, commutes-by-number}
 use Rattle.theory.proofs.Substitution.{substitution-laws}
@@ -33,31 +29,25 @@ use Rattle.theory.proofs.Substitution.{substitution-laws}
 -- ---- accepted calls
 
 pub accepted-calls : (x y : Table) → AcceptedCalls x y
-unfolding refinementChecks compositionChecks
 accepted-calls x y = record {
   refine = (
-    (λ a. let ((vx, vy), (c9, _)) = both-passed x y _ .0 (a .accepted) in (vx, vy, search (nltb→le, not-T))),
-    (λ (vx, vy, few). record {
-      marks = x .header .states * y .header .states;
-      accepted = both-passed x y _ .1 ((vx, vy), (λ h. omega (arith, ltb→lt), (λ h. simp eq-eqb at h, tt)));
-    }),
+    (λ a. refinement-accepted x y (a .marks) .0 (a .accepted) .0),
+    (λ v. record { marks = pairCount x y; accepted = refinement-accepted x y (pairCount x y) .1 (v, refl) }),
   );
   compose = (
-    (λ a. let ((vx, vy), (c7, (c9, _))) = both-passed x y _ .0 (a .accepted) in
-        (vx, vy, search (nltb→le, not-T), λ s o u. c7 (at-any 32 _ s (member-lt (x .header .outputs) s o) (and-both (automaton x .output s) (automaton y .output s) o u)))),
-    (λ (vx, vy, few, apart). record {
-      cells = x .header .states * y .header .states * 32;
-      flags = x .header .states * y .header .states;
-      accepted = both-passed x y _ .1 (
-        (vx, vy),
-        (
-          (λ t. let (s, _, b) = any-at 32 _ t in
-              apart s (and-left (automaton x .output s) (automaton y .output s) b) (and-right (automaton x .output s) (automaton y .output s) b)),
-          (λ h. omega (arith, ltb→lt), (λ h. simp eq-eqb at h, tt)),
-        ),
-      );
+    (λ a. composition-accepted x y (a .cells) (a .flags) .0 (a .accepted) .0),
+    (λ c. record {
+      cells = pairCount x y * 32;
+      flags = pairCount x y;
+      accepted = composition-accepted x y (pairCount x y * 32) (pairCount x y) .1 (c, (refl, refl));
     }),
   );
+}
+
+composable-swap : (y z : Table) → ComposableTables y z → ComposableTables z y
+composable-swap y z c = record {
+  tables = record { one = c .tables .two; two = c .tables .one; few = rw (mul-comm (z .header .states) (y .header .states)) (c .tables .few) };
+  apart = λ a o u. c .apart a u o;
 }
 
 -- ---- what compose gives for z and y
@@ -123,32 +113,37 @@ module _ (y z : Table) (vy : Valid y) (vz : Valid z) (few : y .header .states * 
 replaces-by-calls : (x y z : Table) → RefineAccepts x y → ComposeAccepts y z → ComposeAccepts x z
     → T (refinement x y .refines) → SameLists (interfaceOf x) (interfaceOf y) → T (composition y z .compatible) → ReplacesByCalls x y z
 replaces-by-calls x y z axy ayz axz f same fit =
-    let (vx, vy, _) = accepted-calls x y .refine .0 axy in
-    let (_, vz, few, _) = accepted-calls y z .compose .0 ayz in
-    let (_, _, few′, _) = accepted-calls x z .compose .0 axz in
+    let xy = accepted-calls x y .refine .0 axy in
+    let yz = accepted-calls y z .compose .0 ayz .tables in
+    let xz = accepted-calls x z .compose .0 axz .tables in
+    let vx = xy .one in
+    let vy = xy .two in
+    let vz = yz .two in
     let r = substitution-laws x y z vx vy vz .substitution (refines-tables x y vx vy .0 f) same (compatible-tables y z vy vz .0 fit) in
     let c = composedTable x z in
     let d = composedTable y z in
-    let vc : Valid c = composed-valid x z vx vz few′ in
-    let vd : Valid d = composed-valid y z vy vz few in
+    let vc : Valid c = composed-valid x z vx vz (xz .few) in
+    let vd : Valid d = composed-valid y z vy vz (yz .few) in
     record {
       compatible = compatible-tables x z vx vz .1 (r .compatible);
       refines = refines-tables c d vc vd .1
           (decided (automaton c) (automaton d) 32 (table-well-formed c (vc .initial)) (table-well-formed d (vd .initial)) (table-narrow c) (table-narrow d)
-          (transitive (composed-refines x z vx vz (omega arith)) (transitive (by-test (r .refines)) (composed-refined y z vy vz (omega arith)))));
+          (transitive (composed-refines x z vx vz (omega (arith, xz .few))) (transitive (by-test (r .refines)) (composed-refined y z vy vz (omega (arith, yz .few))))));
     }
 
 pub substitution-by-calls : (x y z : Table) → SubstitutionByCalls x y z
 substitution-by-calls x y z = record {
   reflexive = λ a.
-      let (v, _, _) = accepted-calls x x .refine .0 a in
+      let v = accepted-calls x x .refine .0 a .one in
       refines-tables x x v v .1 (substitution-laws x x x v v v .reflexive);
   transitive = λ axy ayz f g.
-      let (vx, vy, _) = accepted-calls x y .refine .0 axy in
-      let (_, vz, _) = accepted-calls y z .refine .0 ayz in
+      let vx = accepted-calls x y .refine .0 axy .one in
+      let vy = accepted-calls x y .refine .0 axy .two in
+      let vz = accepted-calls y z .refine .0 ayz .two in
       refines-tables x z vx vz .1 (substitution-laws x y z vx vy vz .transitive (refines-tables x y vx vy .0 f) (refines-tables y z vy vz .0 g));
   substitution = replaces-by-calls x y z;
   commutative = λ a.
-      let (vy, vz, few, apart) = accepted-calls y z .compose .0 a in
-      commutes-by-calls y z vy vz few (accepted-calls z y .compose .1 (vz, vy, rw (mul-comm (z .header .states) (y .header .states)) few, λ s o u. apart s u o));
+      let c = accepted-calls y z .compose .0 a in
+      let v = c .tables in
+      commutes-by-calls y z (v .one) (v .two) (v .few) (accepted-calls z y .compose .1 (composable-swap y z c));
 }

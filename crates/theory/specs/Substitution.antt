@@ -2,16 +2,16 @@
 use mathlib.Core.Path.{_≡_}
 use mathlib.Core.Logic.{_↔_}
 use mathlib.Core.Bool.{cond}
-use Prim.Native.Nat.{ℕ, _*_, _/_, _%_, _<_, _≤_}
+use Prim.Native.Nat.{ℕ, _*_, _/_, _%_, _<_}
 use lib.Dec.{T, eqb}
 use lib.ListN.{getD}
 use Rattle.theory.specs.declared.Automaton.{Automaton}
 use Rattle.theory.specs.declared.Checked.the-variants.{Accepted}
 use Rattle.theory.specs.Interface.{InterfaceAutomaton, CompatiblePair, Compatible, compose, Refinement}
 use Rattle.theory.specs.Numbered.{interface, pair}
-use Rattle.theory.specs.Table.{Table, automaton, cellAt, composition, composedTable, refinement}
+use Rattle.theory.specs.Table.{header, Table, automaton, cellAt, composition, composedTable, refinement}
 use Rattle.theory.specs.Checks.{first, compositionChecks, refinementChecks}
-use Rattle.theory.specs.Valid.{Valid}
+use Rattle.theory.specs.Valid.{Valid, ValidTables, ComposableTables}
 
 -- ---- interface automata
 
@@ -97,17 +97,10 @@ pub record ComposeAccepts (y z : Table) : Type 0 where
   pub flags : ℕ
   pub accepted : first (compositionChecks y z cells flags) ≡ Accepted
 
-module _ (x y : Table) where
-  abbrev FewPairs : Type 0
-  FewPairs = x .header .states * y .header .states ≤ 4096
-
-  abbrev NoSharedOutput : Type 0
-  NoSharedOutput = (a : ℕ) → T (interfaceOf x .output a) → ¬ T (interfaceOf y .output a)
-
-  -- Refine accepts exactly the accepted tables of at most 4,096 pairs, compose those among them that have no output in common.
-  pub record AcceptedCalls : Type 0 where
-    pub refine : RefineAccepts x y ↔ (Valid x × Valid y × FewPairs)
-    pub compose : ComposeAccepts x y ↔ (Valid x × Valid y × FewPairs × NoSharedOutput)
+-- Refine accepts exactly the accepted tables of at most 4,096 pairs, compose those among them that have no output in common.
+pub record AcceptedCalls (x y : Table) : Type 0 where
+  pub refine : RefineAccepts x y ↔ ValidTables x y
+  pub compose : ComposeAccepts x y ↔ ComposableTables x y
 
 -- The verdicts say that x takes the place of y beside z. (The two compositions may still be too large for a call of refine: 9.)
 pub record ReplacesByCalls (x y z : Table) : Type 0 where
@@ -124,7 +117,7 @@ swappedCell m n cell = cond (eqb cell 65535) 65535 (swappedPair m n cell)
 
 -- The first pair is swapped; the number of states and the lists stay.
 abbrev pub swappedHeader : ℕ → ℕ → Automaton → Automaton
-swappedHeader m n h = record { states = h .states; initial = swappedPair m n (h .initial); inputs = h .inputs; outputs = h .outputs }
+swappedHeader m n h = header (h .states) (swappedPair m n (h .initial)) (h .inputs) (h .outputs)
 
 module _ (y z : Table) where
   abbrev m : ℕ
