@@ -7,10 +7,10 @@ use lib.Dec.{eqb}
 use lib.ListN.{getD, length}
 use Rattle.theory.specs.declared.Automaton.{Automaton}
 use Rattle.theory.specs.Table.{Table, composition, productHeader}
-use Rattle.pairs.specs.declared.Question.{Question}
-use Rattle.pairs.specs.Search.{rankedPairs, pairRounds, flagged}
-use Rattle.pairs.specs.Ready.{Ready}
-use Rattle.pairs.proofs.Answers.{start-below}
+use Rattle.search.specs.declared.Question.{Question}
+use Rattle.search.specs.Search.{rankedPairs, pairRounds, flagged}
+use Rattle.search.specs.Ready.{Ready}
+use Rattle.search.proofs.Answers.{start-below}
 use Rattle.product.specs.Kept.{keptFilled}
 use Rattle.compatibility.specs.Replies.{compatibilityQuestion}
 use Rattle.compatibility.proofs.Answers.{decide-verdict, decide-rounds, decide-ranks}

@@ -3,8 +3,8 @@ use mathlib.Core.Path.{_≡_, ap, _∙_}
 use mathlib.Core.List.{List}
 use Prim.Native.Nat.{ℕ}
 use Rattle.emit.specs.Buffer.{stored}
-use Rattle.replies.specs.declared.Reply.{Reply}
-use Rattle.replies.specs.Replies.{named}
+use Rattle.harness.specs.declared.replies.Reply.{Reply}
+use Rattle.harness.specs.Replies.{named}
 
 -- The looked-up name s, of which the code has its own number.
 module _ (name s : List ℕ) (found : s ≡ name) where

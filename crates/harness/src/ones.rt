@@ -2,14 +2,15 @@
 ghost use mathlib.Core.Path.{_≡_};
 ghost use Rattle.theory.specs.Table.{keptCount};
 ghost use Rattle.theory.specs.Checks.{first, tableChecks};
-ghost use Rattle.automaton.specs.Replies.{mirrorReply};
-ghost use Rattle.follower.specs.Replies.{followReply};
+ghost use Rattle.table.specs.Contract.{mirrorReply};
+ghost use Rattle.table.specs.Contract.{followReply};
 ghost use Rattle.reach.specs.Marks.{reachedMarks};
 ghost use Rattle.reach.specs.Ends.{endsIn};
-ghost use Rattle.counts.specs.Cells.{stepsIn};
-ghost use Rattle.replies.specs.Replies.{judged, mirrored, followed};
+ghost use Rattle.table.specs.StepCounts.{stepsIn};
+ghost use Rattle.harness.specs.Replies.{judged, mirrored, followed};
 ghost use Rattle.harness.specs.Tables.{tableOf};
-use replies::Reply;
+use crate::replies;
+use crate::replies::Reply;
 use theory::Automaton;
 
 // Judges a table.
@@ -29,7 +30,7 @@ pub extern "C" fn harness_judge(
         inputs,
         outputs,
     };
-    replies::judged(automaton::judge(a, cells))
+    replies::judged(table::judge(a, cells))
 }
 
 // Mirrors a table: gives the header of the mirror, whose cells are those of the table.
@@ -49,7 +50,7 @@ pub extern "C" fn harness_mirror(
         inputs,
         outputs,
     };
-    replies::mirrored(automaton::mirror(a, cells))
+    replies::mirrored(table::mirror(a, cells))
 }
 
 // Makes one step of the follower from a state by a signal.
@@ -71,7 +72,7 @@ pub extern "C" fn harness_follow(
         inputs,
         outputs,
     };
-    replies::followed(state, follower::follow(a, cells, state, signal))
+    replies::followed(state, table::follow(a, cells, state, signal))
 }
 
 // Counts the bytes that are 1.
@@ -79,7 +80,7 @@ pub extern "C" fn harness_follow(
 pub extern "C" fn harness_count_kept(flags: &[u8]) -> usize
     ensures { λ r. ⌜ r ≡ keptCount (now (flags .entry)) ⌝ }
 {
-    counts::count_kept(flags)
+    table::count_kept(flags)
 }
 
 // Counts the bytes that are 1, one by one, for the benchmark to compare with.
@@ -87,7 +88,7 @@ pub extern "C" fn harness_count_kept(flags: &[u8]) -> usize
 pub extern "C" fn harness_count_singly(flags: &[u8]) -> usize
     ensures { λ r. ⌜ r ≡ keptCount (now (flags .entry)) ⌝ }
 {
-    counts::count_singly(flags)
+    table::count_singly(flags)
 }
 
 // Counts the cells that hold a step.
@@ -95,7 +96,7 @@ pub extern "C" fn harness_count_singly(flags: &[u8]) -> usize
 pub extern "C" fn harness_count_steps(states: usize, cells: &[u16]) -> usize
     ensures { λ r. ⌜ r ≡ stepsIn states (now (cells .entry)) ⌝ }
 {
-    counts::count_steps(states, cells)
+    table::count_steps(states, cells)
 }
 
 // Counts the ends of a composition, by its table and flags.

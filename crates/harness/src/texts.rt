@@ -12,9 +12,10 @@ ghost use Rattle.names.specs.Names.{texts};
 ghost use Rattle.writer.specs.Replies.{writerReply};
 ghost use Rattle.listing.specs.Listing.{listingText};
 ghost use Rattle.report.specs.Report.{reportText, reportBuffers};
-ghost use Rattle.replies.specs.Replies.{aloneRead, togetherRead, named, written};
+ghost use Rattle.harness.specs.Replies.{aloneRead, togetherRead, named, written};
 ghost use Rattle.harness.specs.Tables.{tableOf};
-use replies::Reply;
+use crate::replies;
+use crate::replies::Reply;
 use theory::Automaton;
 
 // Reads a text alone; the cells of its table are in the lent buffer.

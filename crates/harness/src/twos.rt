@@ -5,9 +5,10 @@ ghost use Rattle.compatibility.specs.Replies.{compatibilityReply, compatibility
 ghost use Rattle.composition.specs.Replies.{productReply, productCells, compositionReply, compositionCells, compositionFlags};
 ghost use Rattle.refinement.specs.Replies.{refinementReply, refinementMarks};
 ghost use Rattle.synthesis.specs.Replies.{synthesisReply, synthesisCells, synthesisFlags};
-ghost use Rattle.replies.specs.Replies.{multiplied, fitted, composed, refined, synthesized};
+ghost use Rattle.harness.specs.Replies.{multiplied, fitted, composed, refined, synthesized};
 ghost use Rattle.harness.specs.Tables.{tableOf};
-use replies::Reply;
+use crate::replies;
+use crate::replies::Reply;
 use theory::Automaton;
 
 // Builds the product; its cells are in the lent buffer.

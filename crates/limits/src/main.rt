@@ -3,9 +3,9 @@
 ghost use Prim.Native.Nat.{_≤_};
 ghost use Rattle.limits.specs.Room.{Room};
 use compatibility::Compatibility;
-use follower::Followed;
 use libc::STDOUT_FILENO;
 use reader::Alone;
+use table::Followed;
 use theory::Automaton;
 use theory::Checked;
 
@@ -54,7 +54,7 @@ fn judge(call: &[u8], states: usize, cells: usize)
     requires { ⌜ cells ≤ 131104 ⌝ }
 {
     let blank = [65535u16; 131104];
-    match automaton::judge(of_states(states), &blank[0..cells]) {
+    match table::judge(of_states(states), &blank[0..cells]) {
         Checked::Accepted => report(call, 0),
         Checked::Refused(r) => report(call, r.number),
     }
@@ -83,7 +83,7 @@ fn fit(call: &[u8], n: usize, m: usize, bytes: usize)
 fn follow(call: &[u8], signal: usize) {
     let mut cells = [65535u16; 64];
     cells[31] = 1;
-    match follower::follow(of_states(2), &cells, 0, signal) {
+    match table::follow(of_states(2), &cells, 0, signal) {
         Followed::Moved(to) => {
             say(call);
             say_number(b": moved to ", to as u64);

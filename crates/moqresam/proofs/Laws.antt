@@ -3,10 +3,10 @@ use mathlib.Core.Path.{_≡_, refl, _∙_}
 use mathlib.Core.Bool.{Bool, true, false}
 use Prim.Native.Nat.{ℕ}
 use Rattle.theory.specs.declared.Refusal.{Refusal}
-use Rattle.automaton.specs.declared.Status.{Status}
-use Rattle.automaton.specs.Statuses.{statusOf, acceptedStatus}
-use Rattle.follower.specs.declared.Followed.{Followed}
-use Rattle.follower.specs.declared.Followed.the-variants as followed
+use Rattle.table.specs.declared.Status.{Status}
+use Rattle.table.specs.Statuses.{statusOf, acceptedStatus}
+use Rattle.table.specs.declared.Followed.{Followed}
+use Rattle.table.specs.declared.Followed.the-variants as followed
 use Rattle.compatibility.specs.declared.Compatibility.{Compatibility}
 use Rattle.compatibility.specs.declared.Compatibility.the-variants as compatibility
 use Rattle.refinement.specs.declared.Refined.{Refined}

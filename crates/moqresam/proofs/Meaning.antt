@@ -9,11 +9,11 @@ use Rattle.theory.specs.declared.Location.the-variants.{Cell, Nowhere}
 use Rattle.theory.specs.declared.Refusal.{Refusal}
 use Rattle.theory.specs.Table.{Table}
 use Rattle.theory.specs.Locations.{Located, of-table, of-five, of-six, nowhere, LocatedIn, LocatedAt}
-use Rattle.automaton.specs.Statuses.{statusOf, acceptedStatus}
-use Rattle.follower.specs.declared.Followed.{Followed}
-use Rattle.follower.specs.declared.Followed.the-variants as followed
-use Rattle.follower.specs.Replies.{followReply}
-use Rattle.follower.proofs.Meaning.{follow-located}
+use Rattle.table.specs.Statuses.{statusOf, acceptedStatus}
+use Rattle.table.specs.declared.Followed.{Followed}
+use Rattle.table.specs.declared.Followed.the-variants as followed
+use Rattle.table.specs.Contract.{followReply}
+use Rattle.table.proofs.Meaning.{follow-located}
 use Rattle.compatibility.specs.declared.Compatibility.{Compatibility}
 use Rattle.compatibility.specs.declared.Compatibility.the-variants as compatibility
 use Rattle.compatibility.specs.Replies.{compatibilityReply}

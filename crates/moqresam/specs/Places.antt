@@ -6,7 +6,7 @@ use Prim.Native.Nat.{_≤_}
 use lib.Dec.{T}
 use Rattle.theory.specs.declared.Location.the-variants.{Cell, Nowhere}
 use Rattle.theory.specs.declared.Refusal.{Refusal}
-use Rattle.automaton.specs.declared.Status.{Status}
+use Rattle.table.specs.declared.Status.{Status}
 use Rattle.moqresam.specs.declared.FitReply.{FitReply}
 use Rattle.moqresam.specs.declared.RefineReply.{RefineReply}
 use Rattle.moqresam.specs.declared.FollowReply.{FollowReply}

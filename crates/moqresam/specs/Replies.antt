@@ -1,10 +1,10 @@
 -- The replies of the C calls, from the library's: every field in every case.
 use Prim.Native.Nat.{ℕ}
 use mathlib.Core.Bool.{Bool, true, false}
-use Rattle.automaton.specs.declared.Status.{Status}
-use Rattle.automaton.specs.Statuses.{statusOf, acceptedStatus}
-use Rattle.follower.specs.declared.Followed.{Followed}
-use Rattle.follower.specs.declared.Followed.the-variants as followed
+use Rattle.table.specs.declared.Status.{Status}
+use Rattle.table.specs.Statuses.{statusOf, acceptedStatus}
+use Rattle.table.specs.declared.Followed.{Followed}
+use Rattle.table.specs.declared.Followed.the-variants as followed
 use Rattle.compatibility.specs.declared.Compatibility.{Compatibility}
 use Rattle.compatibility.specs.declared.Compatibility.the-variants as compatibility
 use Rattle.refinement.specs.declared.Refined.{Refined}

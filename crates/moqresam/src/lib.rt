@@ -3,15 +3,15 @@
 ghost use mathlib.Core.Path.{_≡_};
 ghost use lib.ListN.{length};
 ghost use Rattle.theory.specs.Table.{keptCount};
-ghost use Rattle.follower.specs.Replies.{followReply};
+ghost use Rattle.table.specs.Contract.{followReply};
 ghost use Rattle.compatibility.specs.Replies.{compatibilityReply, compatibilityFlags};
 ghost use Rattle.refinement.specs.Replies.{refinementReply, refinementMarks};
-ghost use Rattle.cells.specs.Bytes.{tableOfBytes};
+ghost use Rattle.packed.specs.Bytes.{tableOfBytes};
 ghost use Rattle.moqresam.specs.Replies.{fitWith, refineWith, followWith, fitReply, refineReply, monitorReply, stateAfter};
-use automaton::Status;
 use compatibility::Compatibility;
-use follower::Followed;
 use refinement::Refined;
+use table::Followed;
+use table::Status;
 use theory::Automaton;
 
 // Reply of `moqresam_fit`: the number of the refusal and the table at fault, both 0 if nothing is refused; the verdict; how many rounds drop a
@@ -98,11 +98,11 @@ fn fit_reply(c: Compatibility) -> FitReply
 {
     match c {
         Compatibility::Decided { compatible, rounds } => fit_with(
-            automaton::accepted(),
+            table::accepted(),
             compatible,
             rounds,
         ),
-        Compatibility::Refused(r) => fit_with(automaton::status_of(r), false, 0),
+        Compatibility::Refused(r) => fit_with(table::status_of(r), false, 0),
     }
 }
 
@@ -110,8 +110,8 @@ fn refine_reply(c: Refined) -> RefineReply
     ensures { λ r. ⌜ r ≡ refineReply c ⌝ }
 {
     match c {
-        Refined::Decided(refines) => refine_with(automaton::accepted(), refines),
-        Refined::Refused(r) => refine_with(automaton::status_of(r), false),
+        Refined::Decided(refines) => refine_with(table::accepted(), refines),
+        Refined::Refused(r) => refine_with(table::status_of(r), false),
     }
 }
 
@@ -119,9 +119,9 @@ fn follow_reply(state: usize, f: Followed) -> FollowReply
     ensures { λ r. ⌜ r ≡ monitorReply state f ⌝ }
 {
     match f {
-        Followed::Moved(to) => follow_with(automaton::accepted(), true, to),
-        Followed::NotNow => follow_with(automaton::accepted(), false, state),
-        Followed::Refused(r) => follow_with(automaton::status_of(r), false, state),
+        Followed::Moved(to) => follow_with(table::accepted(), true, to),
+        Followed::NotNow => follow_with(table::accepted(), false, state),
+        Followed::Refused(r) => follow_with(table::status_of(r), false, state),
     }
 }
 
@@ -162,7 +162,7 @@ pub extern "C" fn moqresam_fit(
         inputs: inputs_b,
         outputs: outputs_b,
     };
-    fit_reply(packed_fit::fit(a, cells_a, b, cells_b, flags))
+    fit_reply(packed::fit(a, cells_a, b, cells_b, flags))
 }
 
 // Counts the flags that are 1, in a buffer of any length.
@@ -170,7 +170,7 @@ pub extern "C" fn moqresam_fit(
 pub extern "C" fn moqresam_count_kept(flags: &[u8]) -> usize
     ensures { λ r. ⌜ r ≡ keptCount (now (flags .entry)) ⌝ }
 {
-    counts::count_kept(flags)
+    table::count_kept(flags)
 }
 
 // Decides whether the first table refines the second, and writes one mark for each state pair: 1 related, 0 not. A refusal leaves the marks as they
@@ -204,7 +204,7 @@ pub extern "C" fn moqresam_refine(
         inputs: inputs_b,
         outputs: outputs_b,
     };
-    refine_reply(packed_refinement::refine(a, cells_a, b, cells_b, marks))
+    refine_reply(packed::refine(a, cells_a, b, cells_b, marks))
 }
 
 // Makes one step of the follower from a state by a signal. The reply has the new state; at "not now" or a refusal, the state given.

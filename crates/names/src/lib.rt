@@ -67,17 +67,17 @@ pub fn check(a: Automaton, name: &[u8], names: &[&[u8]]) -> Checked
     ensures { λ r. ⌜ r ≡ first (nameChecks a (now (name .entry)) (texts (now (names .entry)))) ⌝ }
 {
     if !tokens::is_name(name) {
-        return automaton::refuse(16, 0);
+        return table::refuse(16, 0);
     }
-    let signals = automaton::declared(a);
+    let signals = table::declared(a);
     if is_misnamed(signals, names) {
-        return automaton::refuse(16, 0);
+        return table::refuse(16, 0);
     }
     if is_repeated(Spelling::Folded, signals, names) {
         if is_repeated(Spelling::Exact, signals, names) {
-            return automaton::refuse(18, 0);
+            return table::refuse(18, 0);
         }
-        return automaton::refuse(28, 0);
+        return table::refuse(28, 0);
     }
     Checked::Accepted
 }

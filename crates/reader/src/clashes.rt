@@ -138,8 +138,8 @@ pub fn list_clashes<'a>(m: &'a [u8], p: &'a [u8], cm: &mut [u16], cp: &mut [u16]
 {
     let told = texts::read_both(m, p, Spelling::Exact, cm, cp);
     if told.refused {
-        automaton::clear(cm);
-        automaton::clear(cp);
+        table::clear(cm);
+        table::clear(cp);
         let refusal = told.refusal;
         return refuse(refusal);
     }

@@ -65,7 +65,7 @@ fn read_one(m: &[u8], spelling: Spelling, cells: &mut [u16]) -> Alone
 {
     let told = texts::read_one(m, spelling, cells);
     if told.refused {
-        automaton::clear(cells);
+        table::clear(cells);
         let refusal = told.refusal;
         return Alone::Refused(refusal);
     }
@@ -105,8 +105,8 @@ fn read_both<'a>(
 {
     let told = texts::read_both(m, p, spelling, cm, cp);
     if told.refused {
-        automaton::clear(cm);
-        automaton::clear(cp);
+        table::clear(cm);
+        table::clear(cp);
         let refusal = told.refusal;
         return Together::Refused(refusal);
     }

@@ -46,7 +46,7 @@ fn place_of<'a>(m: &'a [u8], p: &'a [u8], signals: Signals, signal: usize) -> Fo
 fn is_either(a: Automaton, b: Automaton, signal: usize) -> bool
     ensures { λ r. ⌜ r ≡ (isDeclared a signal || isDeclared b signal) ⌝ }
 {
-    sets::contains(automaton::declared(a) | automaton::declared(b), signal)
+    sets::contains(table::declared(a) | table::declared(b), signal)
 }
 
 // Finds the place in two texts, read together into lent cells; what it leaves in them is open.

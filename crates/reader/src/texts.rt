@@ -114,7 +114,7 @@ fn read<'a>(
     requires { ⌜ Fit signals ⌝ }
     ensures { λ r. ⌜ Reads (now (m .entry)) (now (p .entry)) text spelling signals (length (now (cells .entry))) r (now (cells .exit)) ⌝ }
 {
-    automaton::clear(cells);
+    table::clear(cells);
     let bytes = signals::text_of(m, p, text as u32);
     if 65536 < bytes.len() {
         return refuse(13, text, 0, fresh(signals));

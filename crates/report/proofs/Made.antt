@@ -19,8 +19,8 @@ use Rattle.emit.specs.Buffer.{stored, after}
 use Rattle.emit.proofs.Buffer.{Puts}
 use Rattle.reach.specs.Ends.{endsIn}
 use Rattle.reach.proofs.Ends.{ends-of-table}
-use Rattle.counts.specs.Cells.{stepsIn}
-use Rattle.counts.proofs.Cells.{steps-of-table}
+use Rattle.table.specs.StepCounts.{stepsIn}
+use Rattle.table.proofs.StepCounts.{steps-of-table}
 use Rattle.synthesis.specs.declared.Synthesis.{Synthesis}
 use Rattle.synthesis.specs.declared.Synthesis.the-variants as made
 use Rattle.synthesis.specs.Replies.{verdict, decidedOf, synthesisReply, synthesisCells, synthesisFlags}

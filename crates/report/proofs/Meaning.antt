@@ -23,7 +23,7 @@ use Rattle.theory.proofs.Controller.{mirror-valid}
 use Rattle.theory.proofs.Tests.{or-right}
 use Rattle.theory.proofs.Verdicts as verdicts
 use Rattle.theory.proofs.Ends as ends
-use Rattle.counts.proofs.Flags.{kept-le}
+use Rattle.table.proofs.FlagCounts.{kept-le}
 use Rattle.text.specs.declared.Spelling.the-variants.{Folded}
 use Rattle.text.specs.Reading.{Reading, Joint, both, neither, readBoth, tableRead}
 use Rattle.text.specs.Writing.{decimal, tabbed, printed}

@@ -11,7 +11,7 @@ use Rattle.theory.specs.Table.{Table, table, synthesis, keptCount}
 use Rattle.theory.specs.Checks.{first, unlessRefused}
 use Rattle.emit.specs.Buffer.{stored, after}
 use Rattle.reach.specs.Ends.{endsIn}
-use Rattle.counts.specs.Cells.{stepsIn}
+use Rattle.table.specs.StepCounts.{stepsIn}
 use Rattle.synthesis.specs.declared.Synthesis.{Synthesis}
 use Rattle.synthesis.specs.declared.Synthesis.the-variants as made
 use Rattle.printout.specs.Lines.{refusalText, figures}

@@ -34,8 +34,8 @@ fn six_lines(
     ensures { λ r. ⌜ r ≡ after (length (now (out .entry))) 0 (sixOf compatible header rounds (now (cells .entry)) (now (flags .entry))) ⌝ }
     ensures { λ r. ⌜ now (out .exit) ≡ stored (now (out .entry)) 0 (sixOf compatible header rounds (now (cells .entry)) (now (flags .entry))) ⌝ }
 {
-    let kept = counts::count_kept(flags);
-    let steps = counts::count_steps(header.states, cells);
+    let kept = table::count_kept(flags);
+    let steps = table::count_steps(header.states, cells);
     let ends = reach::count_ends(header, cells, flags);
     printout::figures(out, compatible, header.states, kept, rounds, steps, ends)
 }
@@ -252,7 +252,7 @@ fn clear_if(refused: bool, cells: &mut [u16])
     ensures { λ _. ⌜ now (cells .exit) ≡ cond refused (replicate (length (now (cells .entry))) 65535) (now (cells .entry)) ⌝ }
 {
     if refused {
-        automaton::clear(cells);
+        table::clear(cells);
     }
 }
 

@@ -18,7 +18,7 @@ pub struct Name {
 pub fn is_declared(header: Automaton, signal: usize) -> bool
     ensures { λ r. ⌜ r ≡ isDeclared header signal ⌝ }
 {
-    sets::contains(automaton::declared(header), signal)
+    sets::contains(table::declared(header), signal)
 }
 
 // Returns the text with this number: 2 is the second text, any other number the first.

@@ -76,7 +76,7 @@ fn step_lines(a: Automaton, cells: &[u16], names: &[&[u8]]) -> usize
     requires { ⌜ Known (a .states) (now cells) (bitOr (a .inputs) (a .outputs)) ⌝ }
     ensures { λ r. ⌜ (r ≡ length (stepLines (a .states) (now (cells .entry)) (texts (now (names .entry))))) × (r ≤ a .states * (34 * 2 ^ 32)) ⌝ }
 {
-    let signals = automaton::declared(a);
+    let signals = table::declared(a);
     let mut total = 0;
     for s in 0..a.states {
         total += state_lines(a.states, cells, s, signals, names);
@@ -92,6 +92,6 @@ pub fn text(a: Automaton, cells: &[u16], name: &[u8], names: &[&[u8]]) -> usize
     ensures { λ r. ⌜ r ≡ textLength (table a (now (cells .entry))) (now (name .entry)) (texts (now (names .entry))) ⌝ }
 {
     let head = name.len() + emit::width(a.states) + emit::width(a.initial) + 9;
-    let middle = signal_lines(automaton::declared(a), a.inputs, names);
+    let middle = signal_lines(table::declared(a), a.inputs, names);
     head + middle + step_lines(a, cells, names)
 }

@@ -26,7 +26,7 @@ pub enum Printed {
 fn check(a: Automaton, cells: &[u16], name: &[u8], names: &[&[u8]]) -> Checked
     ensures { λ r. ⌜ r ≡ first (checksBefore (table a (now (cells .entry))) (now (name .entry)) (texts (now (names .entry)))) ⌝ }
 {
-    let checked = automaton::check(a, cells, 1);
+    let checked = table::check(a, cells, 1);
     let Checked::Accepted = checked else {
         return checked;
     };
@@ -43,10 +43,10 @@ fn print(out: &mut [u8], a: Automaton, cells: &[u16], name: &[u8], names: &[&[u8
 {
     let n = lengths::text(a, cells, name, names);
     if 65536 < n {
-        return Printed::Refused(automaton::refusal(23, 0));
+        return Printed::Refused(table::refusal(23, 0));
     }
     if out.len() < n {
-        return Printed::Refused(automaton::refusal(23, 0));
+        return Printed::Refused(table::refusal(23, 0));
     }
     rows::text(out, a, cells, name, names);
     Printed::Length(n)

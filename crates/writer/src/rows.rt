@@ -82,7 +82,7 @@ fn step_lines(d: &mut [u8], at: usize, a: Automaton, cells: &[u16], names: &[&[u
     ensures { λ r. ⌜ r ≡ after (length (now (d .entry))) at (stepLines (a .states) (now (cells .entry)) (texts (now (names .entry)))) ⌝ }
     ensures { λ r. ⌜ now (d .exit) ≡ stored (now (d .entry)) at (stepLines (a .states) (now (cells .entry)) (texts (now (names .entry)))) ⌝ }
 {
-    let signals = automaton::declared(a);
+    let signals = table::declared(a);
     let mut end = at;
     for s in 0..a.states {
         end = state_lines(d, end, a.states, cells, s, signals, names);
@@ -98,6 +98,6 @@ pub fn text(d: &mut [u8], a: Automaton, cells: &[u16], name: &[u8], names: &[&[u
     ensures { λ r. ⌜ now (d .exit) ≡ stored (now (d .entry)) 0 (wholeText (table a (now (cells .entry))) (now (name .entry)) (texts (now (names .entry)))) ⌝ }
 {
     let i = emit::table_line(d, 0, name, a.states, a.initial);
-    let j = signal_lines(d, i, automaton::declared(a), a.inputs, names);
+    let j = signal_lines(d, i, table::declared(a), a.inputs, names);
     step_lines(d, j, a, cells, names)
 }

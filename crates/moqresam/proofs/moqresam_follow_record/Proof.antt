@@ -43,9 +43,9 @@ use denote.Triple.Table.{entered, cited}
 use denote.Triple.Walked.{says, Stays, stay-ref, stay-none, stay-none-slice, walkOf, AllGo, goes-ref, goes-none, goes-none-slice, Walks, ends-at, walked, walk-meets}
 use denote.Exit.{yes}
 use denote.Signature.{plain}
-use Rattle.follower.specs.declared.Followed.{Followed}
-use Rattle.follower.specs.Replies.{followReply}
-use Rattle.cells.specs.Bytes.{tableOfBytes}
+use Rattle.table.specs.declared.Followed.{Followed}
+use Rattle.table.specs.Contract.{followReply}
+use Rattle.packed.specs.Bytes.{tableOfBytes}
 use Rattle.moqresam.specs.Replies.{monitorReply}
 use Rattle.moqresam.specs.declared.Follower.{Follower}
 use Rattle.moqresam.specs.declared.FollowReply.{FollowReply}

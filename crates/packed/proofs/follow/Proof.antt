@@ -1,4 +1,4 @@
-use Rattle.packed.proofs.Laws.{bytes-refused, bytes-row, bytes-cell, bytes-own}
+use Rattle.packed.proofs.OwnCell.{bytes-refused, bytes-row, bytes-cell, bytes-own}
 use borrow.Author.Needs.{needs}
 use Rattle.packed.proofs.follow.Statement.{statement}
 use Rattle.packed.proofs.follow.Tie as tie

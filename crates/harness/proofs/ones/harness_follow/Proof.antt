@@ -1,5 +1,5 @@
 use mathlib.Core.Path.{_∙_, ap}
-use Rattle.replies.specs.Replies.{followed}
+use Rattle.harness.specs.Replies.{followed}
 use borrow.Author.Needs.{needs}
 use Rattle.harness.proofs.ones.harness_follow.Statement.{statement}
 use Rattle.harness.proofs.ones.harness_follow.Tie as tie

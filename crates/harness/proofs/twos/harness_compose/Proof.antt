@@ -1,5 +1,5 @@
 use mathlib.Core.Path.{_∙_, ap}
-use Rattle.replies.specs.Replies.{composed}
+use Rattle.harness.specs.Replies.{composed}
 use borrow.Author.Needs.{needs}
 use Rattle.harness.proofs.twos.harness_compose.Statement.{statement}
 use Rattle.harness.proofs.twos.harness_compose.Tie as tie

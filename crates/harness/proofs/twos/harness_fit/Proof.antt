@@ -1,5 +1,5 @@
 use mathlib.Core.Path.{_∙_, ap}
-use Rattle.replies.specs.Replies.{fitted}
+use Rattle.harness.specs.Replies.{fitted}
 use borrow.Author.Needs.{needs}
 use Rattle.harness.proofs.twos.harness_fit.Statement.{statement}
 use Rattle.harness.proofs.twos.harness_fit.Tie as tie

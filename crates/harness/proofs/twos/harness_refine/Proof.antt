@@ -1,5 +1,5 @@
 use mathlib.Core.Path.{_∙_, ap}
-use Rattle.replies.specs.Replies.{refined}
+use Rattle.harness.specs.Replies.{refined}
 use borrow.Author.Needs.{needs}
 use Rattle.harness.proofs.twos.harness_refine.Statement.{statement}
 use Rattle.harness.proofs.twos.harness_refine.Tie as tie

@@ -1,4 +1,0 @@
-pub mod Counts
-pub mod Checks
-pub mod Replies
-pub mod Meaning

@@ -1,2 +1,0 @@
-pub mod Kernel
-pub mod Front

@@ -1,3 +1,0 @@
-pub mod Conds
-pub mod Links
-pub mod Pairs

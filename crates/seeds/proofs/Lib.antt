@@ -1,3 +1,0 @@
-pub mod Laws
-pub mod Pairs
-pub mod Rows

@@ -1,0 +1,13 @@
+pub mod FaultyRows
+pub mod SoundRows
+pub mod Finds
+pub mod FlagCounts
+pub mod StepCounts
+pub mod Words
+pub mod Overlaps
+pub mod TableChecks
+pub mod Replies
+pub mod Meaning
+pub mod PairChecks
+pub mod PositionChecks
+pub mod MonitorReplies

@@ -1,0 +1,24 @@
+// Headers: the actions that they declare, and the mirror.
+ghost use mathlib.Core.Path.{_≡_};
+ghost use lib.Bits.{bitOr};
+ghost use Rattle.theory.specs.Table.{mirrorHeader};
+use theory::Automaton;
+
+// Returns the declared actions: inputs and outputs together.
+pub fn declared(a: Automaton) -> u32
+    ensures { λ r. ⌜ r ≡ bitOr (a .inputs) (a .outputs) ⌝ }
+{
+    a.inputs | a.outputs
+}
+
+// Exchanges inputs and outputs, and checks nothing. The sequencer maker mirrors plan and result by it: its checks are not those of `mirror`.
+pub fn exchange(a: Automaton) -> Automaton
+    ensures { λ r. ⌜ r ≡ mirrorHeader a ⌝ }
+{
+    Automaton {
+        states: a.states,
+        initial: a.initial,
+        inputs: a.outputs,
+        outputs: a.inputs,
+    }
+}
