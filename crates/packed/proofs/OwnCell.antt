@@ -10,7 +10,7 @@ use Rattle.theory.specs.declared.Checked.the-variants.{Accepted, Refused}
 use Rattle.theory.specs.Checks.{first, monitorChecks}
 use Rattle.table.specs.declared.Followed.{Followed}
 use Rattle.table.specs.declared.Followed.the-variants as followed
-use Rattle.table.specs.Sizes.{stepless}
+use Rattle.table.specs.Cells.{stepless}
 use Rattle.table.specs.Contract.{followReply, ownReply}
 use Rattle.table.proofs.MonitorReplies.{follow-refused, follow-row, follow-cell, follow-at, follow-own}
 use Rattle.packed.specs.Bytes.{unpacked, cellsOfBytes, cellCount, byteTable}

@@ -5,6 +5,7 @@ pub mod FlagCounts
 pub mod StepCounts
 pub mod Words
 pub mod Overlaps
+pub mod CheckLists
 pub mod TableChecks
 pub mod Replies
 pub mod Meaning

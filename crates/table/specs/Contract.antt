@@ -4,7 +4,7 @@ use mathlib.Core.Option.{Option, none, some}
 use Prim.Native.Nat.{ℕ}
 use Rattle.theory.specs.declared.Location.the-variants.{Cell}
 use Rattle.theory.specs.Table.{Table, automaton, decode, mirrorHeader}
-use Rattle.theory.specs.Checks.{first, stray, unlessRefused, tableChecks, monitorChecks}
+use Rattle.theory.specs.Checks.{first, refusal, stray, unlessRefused, tableChecks, monitorChecks}
 use Rattle.table.specs.declared.Mirrored.{Mirrored}
 use Rattle.table.specs.declared.Mirrored.the-variants as mirrored
 use Rattle.table.specs.declared.Followed.{Followed}
@@ -21,7 +21,7 @@ moved (some u) = followed.Moved u
 
 -- Check 5 of the monitor's own cell, at a state and for an action, then its move.
 abbrev pub ownReply : ℕ → ℕ → ℕ → ℕ → Followed
-ownReply n s a cell = cond (stray n cell) (followed.Refused (record { number = 5; table = 1; location = Cell s a })) (moved (decode n cell))
+ownReply n s a cell = cond (stray n cell) (followed.Refused (refusal 5 1 (Cell s a))) (moved (decode n cell))
 
 -- The follower at a state, for a signal.
 unfoldable pub followReply : Table → ℕ → ℕ → Followed

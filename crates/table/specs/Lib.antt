@@ -2,6 +2,6 @@ pub mod Faults
 pub mod StepCounts
 pub mod Words
 pub mod Contract
-pub mod Sizes
+pub mod Cells
 pub mod Statuses
 pub mod Room

@@ -1,12 +1,11 @@
 // Headers: the actions that they declare, and the mirror.
 ghost use mathlib.Core.Path.{_≡_};
-ghost use lib.Bits.{bitOr};
-ghost use Rattle.theory.specs.Table.{mirrorHeader};
+ghost use Rattle.theory.specs.Table.{declaredSet, mirrorHeader};
 use theory::Automaton;
 
 // Returns the declared actions: inputs and outputs together.
 pub fn declared(a: Automaton) -> u32
-    ensures { λ r. ⌜ r ≡ bitOr (a .inputs) (a .outputs) ⌝ }
+    ensures { λ r. ⌜ r ≡ declaredSet a ⌝ }
 {
     a.inputs | a.outputs
 }

@@ -17,12 +17,9 @@ mod monitor;
 mod refusals;
 
 pub use checks::check;
-pub use checks::check_shape;
-pub use checks::compatibility;
-pub use checks::composition;
-pub use checks::each;
-pub use checks::product;
-pub use checks::refinement;
+pub use checks::check_composable;
+pub use checks::check_each;
+pub use checks::check_refinement;
 pub use counts::count_kept;
 pub use counts::count_singly;
 pub use counts::count_steps;
@@ -33,7 +30,6 @@ pub use monitor::check_position;
 pub use monitor::follow;
 pub use refusals::accepted;
 pub use refusals::refusal;
-pub use refusals::refusal_at;
 pub use refusals::refuse;
 pub use refusals::status_nowhere;
 pub use refusals::status_of;
@@ -49,6 +45,13 @@ pub enum Followed {
     Moved(usize),
     NotNow,
     Refused(Refusal),
+}
+
+// Lengths of the result buffers of a call on two tables: cells, 32 for each state pair; bytes, one for each; or both.
+pub enum Room {
+    Cells(usize),
+    Bytes(usize),
+    Both(usize, usize),
 }
 
 // A refusal in plain numbers, for C: its number, the table at fault, whether it names a cell, and the state and action of that cell. All fields are

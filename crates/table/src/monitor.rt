@@ -1,9 +1,8 @@
 // The monitor (document 01: follower): one step, and the two parts of a step for callers that hold the cells in another form.
 ghost use mathlib.Core.Path.{_≡_};
-ghost use lib.ListN.{take};
 ghost use Rattle.theory.specs.Table.{table};
-ghost use Rattle.theory.specs.Checks.{first, monitorChecks};
-ghost use Rattle.table.specs.Sizes.{stepless};
+ghost use Rattle.theory.specs.Checks.{first, placeChecks};
+ghost use Rattle.table.specs.Cells.{stepless};
 ghost use Rattle.table.specs.Contract.{ownReply, followReply};
 use crate::Followed;
 use crate::checks;
@@ -15,7 +14,7 @@ use theory::Location;
 
 // Runs the checks of the monitor that read no cell: 1 to 4, 11, 12; `cells` is the number of cells.
 pub fn check_position(a: Automaton, cells: usize, state: usize, action: usize) -> Checked
-    ensures { λ r. ⌜ r ≡ first (take 6 (monitorChecks 1 (stepless a cells) state action)) ⌝ }
+    ensures { λ r. ⌜ r ≡ first (placeChecks 1 (stepless a cells) state action) ⌝ }
 {
     let shape = checks::check_shape(a, cells, 1);
     let Checked::Accepted = shape else {

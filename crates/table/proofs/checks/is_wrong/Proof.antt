@@ -1,7 +1,7 @@
-use Rattle.table.proofs.PairChecks.{odd-cells, odd-bytes, odd-first, odd-second}
+use Rattle.table.proofs.PairChecks.{wrong-cells, wrong-bytes, wrong-first, wrong-second}
 use borrow.Author.Needs.{needs}
-use Rattle.table.proofs.checks.is_odd.Statement.{statement}
-use Rattle.table.proofs.checks.is_odd.Tie as tie
+use Rattle.table.proofs.checks.is_wrong.Statement.{statement}
+use Rattle.table.proofs.checks.is_wrong.Tie as tie
 
 enum-known-room : tie.Need-enum-known-room
 enum-known-room c = search needs
@@ -19,19 +19,19 @@ mul-if1 : tie.Need-mul-if1
 mul-if1 c = search needs
 
 returns : tie.Need-returns
-returns c = search (odd-first, needs)
+returns c = search (wrong-first, needs)
 
 returns-2 : tie.Need-returns-2
-returns-2 c = search (odd-cells, needs)
+returns-2 c = search (wrong-cells, needs)
 
 returns-3 : tie.Need-returns-3
-returns-3 c = search (odd-bytes, needs)
+returns-3 c = search (wrong-bytes, needs)
 
 returns-4 : tie.Need-returns-4
-returns-4 c = search (odd-second, needs)
+returns-4 c = search (wrong-second, needs)
 
-pub is-odd-spec : {M : Type 1} → statement M
-is-odd-spec =
+pub is-wrong-spec : {M : Type 1} → statement M
+is-wrong-spec =
     tie.close
     (tie.spec
     enum-known-room

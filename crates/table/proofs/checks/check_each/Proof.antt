@@ -1,8 +1,8 @@
 use Rattle.theory.specs.Checks.{eachTable}
-use Rattle.table.proofs.PairChecks.{stopped, went-on}
+use Rattle.table.proofs.CheckLists.{stopped, went-on}
 use borrow.Author.Needs.{needs}
-use Rattle.table.proofs.checks.each.Statement.{statement}
-use Rattle.table.proofs.checks.each.Tie as tie
+use Rattle.table.proofs.checks.check_each.Statement.{statement}
+use Rattle.table.proofs.checks.check_each.Tie as tie
 
 check-requires : tie.Need-check-requires
 check-requires c κs = search needs
@@ -24,6 +24,6 @@ returns-2 : tie.Need-returns-2
 unfolding eachTable
 returns-2 c = search (went-on, needs)
 
-pub each-spec : {M : Type 1} → statement M
-each-spec =
+pub check-each-spec : {M : Type 1} → statement M
+check-each-spec =
     tie.close (tie.spec check-requires enum-told enum-told-2 returns check-requires-2 returns-2)

@@ -1,11 +1,12 @@
-use Rattle.table.specs.Room.{composableChecks}
-use Rattle.table.proofs.PairChecks.{stopped, went-on, applied, passed, few}
+use Rattle.theory.specs.Checks.{composableChecks}
+use Rattle.table.proofs.CheckLists.{stopped, went-on, applied, passed}
+use Rattle.table.proofs.PairChecks.{few-first, few-second}
 use borrow.Author.Needs.{needs}
-use Rattle.table.proofs.checks.composable.Statement.{statement}
-use Rattle.table.proofs.checks.composable.Tie as tie
+use Rattle.table.proofs.checks.check_composable.Statement.{statement}
+use Rattle.table.proofs.checks.check_composable.Tie as tie
 
-each-requires : tie.Need-each-requires
-each-requires c κs = search needs
+check-each-requires : tie.Need-check-each-requires
+check-each-requires c κs = search needs
 
 enum-told : tie.Need-enum-told
 enum-told c = search needs
@@ -27,23 +28,23 @@ returns-2 : tie.Need-returns-2
 unfolding composableChecks
 returns-2 c = search (went-on, applied, needs)
 
-sizes-requires : tie.Need-sizes-requires
-sizes-requires c κs = search (few, needs)
+check-sizes-requires : tie.Need-check-sizes-requires
+check-sizes-requires c κs = search (few-first, few-second, needs)
 
 returns-3 : tie.Need-returns-3
 unfolding composableChecks
 returns-3 c = search (went-on, passed, needs)
 
-pub composable-spec : {M : Type 1} → statement M
-composable-spec =
+pub check-composable-spec : {M : Type 1} → statement M
+check-composable-spec =
     tie.close
     (tie.spec
-    each-requires
+    check-each-requires
     enum-told
     enum-told-2
     returns
     intersects-requires
     refuse-requires
     returns-2
-    sizes-requires
+    check-sizes-requires
     returns-3)

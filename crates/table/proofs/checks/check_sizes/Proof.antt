@@ -1,7 +1,7 @@
 use Rattle.table.proofs.PairChecks.{pairs-fit, sizes-9, sizes-10, sizes-ok}
 use borrow.Author.Needs.{needs}
-use Rattle.table.proofs.checks.sizes.Statement.{statement}
-use Rattle.table.proofs.checks.sizes.Tie as tie
+use Rattle.table.proofs.checks.check_sizes.Statement.{statement}
+use Rattle.table.proofs.checks.check_sizes.Tie as tie
 
 mul-pairs : tie.Need-mul-pairs
 mul-pairs c = search (pairs-fit, needs)
@@ -12,8 +12,8 @@ refuse-requires c κs = search needs
 returns : tie.Need-returns
 returns c = search (sizes-9, needs)
 
-is-odd-requires : tie.Need-is-odd-requires
-is-odd-requires c κs = search needs
+is-wrong-requires : tie.Need-is-wrong-requires
+is-wrong-requires c κs = search needs
 
 refuse-requires-2 : tie.Need-refuse-requires-2
 refuse-requires-2 c κs = search needs
@@ -24,14 +24,14 @@ returns-2 c = search (sizes-10, needs)
 returns-3 : tie.Need-returns-3
 returns-3 c = search (sizes-ok, needs)
 
-pub sizes-spec : {M : Type 1} → statement M
-sizes-spec =
+pub check-sizes-spec : {M : Type 1} → statement M
+check-sizes-spec =
     tie.close
     (tie.spec
     mul-pairs
     refuse-requires
     returns
-    is-odd-requires
+    is-wrong-requires
     refuse-requires-2
     returns-2
     returns-3)
