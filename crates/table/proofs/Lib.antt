@@ -10,5 +10,6 @@ pub mod TableChecks
 pub mod Replies
 pub mod Meaning
 pub mod PairChecks
+pub mod ReadySizes
 pub mod PositionChecks
 pub mod MonitorReplies

@@ -5,3 +5,4 @@ pub mod Contract
 pub mod Cells
 pub mod Statuses
 pub mod Room
+pub mod Ready

@@ -1,6 +1,6 @@
-// Headers: the actions that they declare, and the mirror.
+// Headers: the actions that they declare, those that they send, and the mirror.
 ghost use mathlib.Core.Path.{_≡_};
-ghost use Rattle.theory.specs.Table.{declaredSet, mirrorHeader};
+ghost use Rattle.theory.specs.Table.{declaredSet, sentSet, mirrorHeader};
 use theory::Automaton;
 
 // Returns the declared actions: inputs and outputs together.
@@ -8,6 +8,13 @@ pub fn declared(a: Automaton) -> u32
     ensures { λ r. ⌜ r ≡ declaredSet a ⌝ }
 {
     a.inputs | a.outputs
+}
+
+// Returns the actions that an automaton can send: its outputs.
+pub fn sent(a: Automaton) -> u32
+    ensures { λ r. ⌜ r ≡ sentSet a ⌝ }
+{
+    a.outputs
 }
 
 // Exchanges inputs and outputs, and checks nothing. The sequencer maker mirrors plan and result by it: its checks are not those of `mirror`.

@@ -15,6 +15,7 @@ mod faults;
 mod headers;
 mod monitor;
 mod refusals;
+mod sizes;
 
 pub use checks::check;
 pub use checks::check_composable;
@@ -25,6 +26,7 @@ pub use counts::count_singly;
 pub use counts::count_steps;
 pub use headers::declared;
 pub use headers::exchange;
+pub use headers::sent;
 pub use monitor::advance;
 pub use monitor::check_position;
 pub use monitor::follow;
@@ -33,6 +35,7 @@ pub use refusals::refusal;
 pub use refusals::refuse;
 pub use refusals::status_nowhere;
 pub use refusals::status_of;
+pub use sizes::is_ready;
 
 // Reply of `mirror`: the header of the mirror, whose cells are those of the automaton; or a refusal.
 pub enum Mirrored {
