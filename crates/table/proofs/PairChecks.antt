@@ -14,11 +14,11 @@ use Rattle.theory.specs.declared.Refusal.{Refusal}
 use Rattle.theory.specs.declared.Checked.{Checked}
 use Rattle.theory.specs.declared.Checked.the-variants.{Accepted, Refused}
 use Rattle.theory.specs.Table.{table}
-use Rattle.theory.specs.Checks.{Check, refuse, unplaced, first, tableChecks, eachTable}
-use Rattle.theory.proofs.Checks.{first-refused, first-accepted, first-part, checks-valid}
+use Rattle.theory.specs.Checks.{Check, refuse, unplaced, first, sizeChecks, eachTable}
+use Rattle.theory.proofs.Checks.{first-refused, first-accepted, each-valid}
 use Rattle.table.specs.declared.checks.Room.{Room}
 use Rattle.table.specs.declared.checks.Room.the-variants as room
-use Rattle.table.specs.Room.{Few, oddFor, sizeChecks}
+use Rattle.table.specs.Room.{Few, oddFor}
 
 -- ---- a list of checks, then others
 
@@ -45,10 +45,8 @@ module _ (n i : ℕ) (f : Bool) (m : List Check) (b : Bool) (same : b ≡ f) (k 
 -- Of two accepted tables the state counts may be multiplied.
 pub few : (a : Automaton) (ca : List ℕ) (b : Automaton) (cb : List ℕ) (j : Checked)
     → j ≡ first (eachTable (table a ca) (table b cb)) → j ≡ Accepted → Few (a .states) (b .states)
-unfolding eachTable
 few a ca b cb j begun fine =
-    let (one, two) = first-part (tableChecks 1 (table a ca)) (tableChecks 2 (table b cb)) (sym begun ∙ fine) in
-    record { left = checks-valid 1 (table a ca) .0 one .few-states; right = checks-valid 2 (table b cb) .0 two .few-states }
+    let (one, two) = each-valid (table a ca) (table b cb) .0 (sym begun ∙ fine) in record { left = one .few-states; right = two .few-states }
 
 pub pairs-fit : (n m : ℕ) → Few n m → Fits w64 (n * m)
 pairs-fit n m f = let h : n * m ≤ 4096 * 4096 = mul-le-mul (f .left) (f .right) in record { fits = omega arith }
@@ -67,15 +65,15 @@ module _ (pairs : ℕ) (r : Room) where
     pub odd-second : cells ≡ pairs * 32 → not (eqb bytes pairs) ≡ oddFor pairs r
     odd-second h = rw (both, eq-eqb cells (pairs * 32) h)
 
-  pub sizes-9 : (k : Checked) → 4096 < pairs → k ≡ refuse 9 0 → k ≡ first (sizeChecks pairs r)
+  pub sizes-9 : (k : Checked) → 4096 < pairs → k ≡ refuse 9 0 → k ≡ first (sizeChecks pairs (oddFor pairs r))
   unfolding first sizeChecks
   sizes-9 k h e = rw (e, lt-ltb 4096 pairs h)
 
   module _ (small : pairs ≤ 4096) (b : Bool) (odd : b ≡ oddFor pairs r) where
-    pub sizes-10 : (k : Checked) → b ≡ true → k ≡ refuse 10 0 → k ≡ first (sizeChecks pairs r)
+    pub sizes-10 : (k : Checked) → b ≡ true → k ≡ refuse 10 0 → k ≡ first (sizeChecks pairs (oddFor pairs r))
     unfolding first sizeChecks
     sizes-10 k h e = rw (e, le-ltb 4096 pairs small, ← odd, h)
 
-    pub sizes-ok : b ≡ false → Accepted ≡ first (sizeChecks pairs r)
+    pub sizes-ok : b ≡ false → Accepted ≡ first (sizeChecks pairs (oddFor pairs r))
     unfolding first sizeChecks
     sizes-ok h = rw (le-ltb 4096 pairs small, ← odd, h)

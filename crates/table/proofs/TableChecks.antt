@@ -1,11 +1,11 @@
 -- The replies of the checks, one law for each return.
 use mathlib.Core.Path.{_≡_, refl, sym, ap, _∙_}
-use mathlib.Core.Bool.{Bool, true, false, not, _&&_, cond, Bool·not-not}
+use mathlib.Core.Bool.{Bool, true, false, not, _&&_, cond}
 use mathlib.Core.List.{List}
 use Prim.Native.Nat.{ℕ, _*_, _/_, _%_, _^_, _≤_, _<_}
 use native.Mathlib.Omega.{arith}
 use lib.Bits.{bitOr}
-use lib.Dec.{eqb, ltb, eqb→eq, nltb→le, not-T}
+use lib.Dec.{ltb}
 use lib.ListN.{getD, length, take, drop, take-append-drop, length-replicate}
 use borrow.Author.Tests.{eq-eqb, ne-eqb, lt-ltb, le-ltb, le-leb, lt-leb}
 use Rattle.theory.specs.declared.Automaton.{Automaton}
@@ -16,8 +16,7 @@ use Rattle.theory.specs.declared.Checked.the-variants.{Accepted, Refused}
 use Rattle.theory.specs.Bounded.{any}
 use Rattle.theory.specs.Table.{Table, table, member}
 use Rattle.theory.specs.Checks.{Check, first, refuseAt, declared, isStray, isUndeclared, cellOf, tableChecks}
-use Rattle.theory.proofs.Tests.{or-right}
-use Rattle.theory.proofs.Checks.{orElse, first-append, passed-first}
+use Rattle.theory.proofs.Checks.{orElse, first-append, lists-overlap, shape-accepted}
 use Rattle.theory.proofs.Sets.{member-or}
 use Rattle.table.specs.declared.faults.Finding.{Finding}
 use Rattle.table.specs.declared.faults.Finding.the-variants.{Fault, Nothing}
@@ -78,18 +77,18 @@ module _ (i : ℕ) (a : Automaton) where
         module _ (starts : a .initial < n) (b : Bool) (shared : b ≡ any 32 (λ x. member (a .inputs) x && member (a .outputs) x)) where
           pub shape-3 : (k : Checked) → b ≡ true → k ≡ refuseAt 3 i (Cell 0 0) → k ≡ first (take 4 (tableChecks i bare))
           unfolding first tableChecks
-          shape-3 k h e = rw (e, ne-eqb n 0 some, le-ltb 4096 n few, lt-leb n (a .initial) starts, ← shared, h)
+          shape-3 k h e = rw (e, ne-eqb n 0 some, le-ltb 4096 n few, lt-leb n (a .initial) starts, lists-overlap a, ← shared, h)
 
           module _ (disjoint : b ≡ false) where
             pub shape-4 : (k : Checked) → (count ≡ n * 32 → ⊥) → k ≡ refuseAt 4 i (Cell 0 0) → k ≡ first (take 4 (tableChecks i bare))
             unfolding first tableChecks
             shape-4 k h e =
-                rw (e, ne-eqb n 0 some, le-ltb 4096 n few, lt-leb n (a .initial) starts, ← shared, disjoint, many, ne-eqb count (n * 32) h)
+                rw (e, ne-eqb n 0 some, le-ltb 4096 n few, lt-leb n (a .initial) starts, lists-overlap a, ← shared, disjoint, many, ne-eqb count (n * 32) h)
 
             pub shape-ok : count ≡ n * 32 → Accepted ≡ first (take 4 (tableChecks i bare))
             unfolding first tableChecks
             shape-ok h =
-                rw (ne-eqb n 0 some, le-ltb 4096 n few, lt-leb n (a .initial) starts, ← shared, disjoint, many, eq-eqb count (n * 32) h)
+                rw (ne-eqb n 0 some, le-ltb 4096 n few, lt-leb n (a .initial) starts, lists-overlap a, ← shared, disjoint, many, eq-eqb count (n * 32) h)
 
     -- The actions of both lists, as one set.
     pub union : (d x : ℕ) → d ≡ bitOr (a .inputs) (a .outputs) → member d x ≡ declared bare x
@@ -116,11 +115,7 @@ module _ (i : ℕ) (a : Automaton) where
         pub sized : Sized n cells
         unfolding tableChecks
         sized =
-            let (c1, (c2, (c3, (c4, _)))) = passed-first (take 4 (tableChecks i t)) .0 (sym shape ∙ fine) in
-            record {
-              few = search (nltb→le, not-T, or-right);
-              size = eqb→eq (length cells) (n * 32) (rw Bool·not-not at (not-T (not (eqb (length cells) (n * 32))) c4));
-            }
+            let shaped = shape-accepted t i (sym shape ∙ fine) in record { few = shaped .few-states; size = shaped .size }
 
         -- They are whole rows.
         whole : length cells / 32 * 32 ≡ n * 32

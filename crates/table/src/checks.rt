@@ -5,9 +5,9 @@ ghost use Prim.Native.Nat.{ℕ, _*_, _≤_};
 ghost use lib.ListN.{take};
 ghost use Rattle.theory.specs.Bounded.{any};
 ghost use Rattle.theory.specs.Table.{table, member};
-ghost use Rattle.theory.specs.Checks.{first, tableChecks, eachTable, productChecks, compatibilityChecks, compositionChecks, refinementChecks};
+ghost use Rattle.theory.specs.Checks.{first, tableChecks, sizeChecks, eachTable, composableChecks, productChecks, compatibilityChecks, compositionChecks, refinementChecks};
 ghost use Rattle.table.specs.Sizes.{stepless};
-ghost use Rattle.table.specs.Room.{Few, oddFor, sizeChecks, composableChecks};
+ghost use Rattle.table.specs.Room.{Few, oddFor};
 use crate::faults;
 use crate::faults::Finding;
 use crate::headers;
@@ -96,7 +96,7 @@ fn is_odd(room: Room, pairs: usize) -> bool
 // 9, then 10.
 fn sizes(n: usize, m: usize, room: Room) -> Checked
     requires { ⌜ Few n m ⌝ }
-    ensures { λ r. ⌜ r ≡ first (sizeChecks (n * m) room) ⌝ }
+    ensures { λ r. ⌜ r ≡ first (sizeChecks (n * m) (oddFor (n * m) room)) ⌝ }
 {
     let pairs = n * m;
     if 4096 < pairs {
@@ -110,7 +110,7 @@ fn sizes(n: usize, m: usize, room: Room) -> Checked
 
 // The checks of two automata that are to be composed: 1 to 6 of each, 7, 9, 10.
 fn composable(a: Automaton, ca: &[u16], b: Automaton, cb: &[u16], room: Room) -> Checked
-    ensures { λ r. ⌜ r ≡ first (composableChecks (table a (now (ca .entry))) (table b (now (cb .entry))) room) ⌝ }
+    ensures { λ r. ⌜ r ≡ first (composableChecks (table a (now (ca .entry))) (table b (now (cb .entry))) (oddFor (a .states * b .states) room)) ⌝ }
 {
     let tables = each(a, ca, b, cb);
     let Checked::Accepted = tables else {

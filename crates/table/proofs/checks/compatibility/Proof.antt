@@ -1,5 +1,4 @@
 use Rattle.theory.specs.Checks.{compatibilityChecks}
-use Rattle.table.specs.Room.{composableChecks, sizeChecks}
 use borrow.Author.Needs.{needs}
 use Rattle.table.proofs.checks.compatibility.Statement.{statement}
 use Rattle.table.proofs.checks.compatibility.Tie as tie
@@ -8,7 +7,7 @@ composable-requires : tie.Need-composable-requires
 composable-requires c κs = search needs
 
 returns : tie.Need-returns
-unfolding compatibilityChecks composableChecks sizeChecks
+unfolding compatibilityChecks
 returns c = search needs
 
 pub compatibility-spec : {M : Type 1} → statement M

@@ -1,4 +1,4 @@
-use Rattle.table.specs.Room.{composableChecks}
+use Rattle.theory.specs.Checks.{composableChecks}
 use Rattle.table.proofs.PairChecks.{stopped, went-on, applied, passed, few}
 use borrow.Author.Needs.{needs}
 use Rattle.table.proofs.checks.composable.Statement.{statement}

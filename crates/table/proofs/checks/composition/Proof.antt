@@ -1,5 +1,4 @@
 use Rattle.theory.specs.Checks.{compositionChecks}
-use Rattle.table.specs.Room.{composableChecks, sizeChecks}
 use borrow.Author.Needs.{needs}
 use Rattle.table.proofs.checks.composition.Statement.{statement}
 use Rattle.table.proofs.checks.composition.Tie as tie
@@ -8,7 +7,7 @@ composable-requires : tie.Need-composable-requires
 composable-requires c κs = search needs
 
 returns : tie.Need-returns
-unfolding compositionChecks composableChecks sizeChecks
+unfolding compositionChecks
 returns c = search needs
 
 pub composition-spec : {M : Type 1} → statement M

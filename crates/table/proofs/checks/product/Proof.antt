@@ -1,5 +1,4 @@
 use Rattle.theory.specs.Checks.{productChecks}
-use Rattle.table.specs.Room.{composableChecks, sizeChecks}
 use borrow.Author.Needs.{needs}
 use Rattle.table.proofs.checks.product.Statement.{statement}
 use Rattle.table.proofs.checks.product.Tie as tie
@@ -8,7 +7,7 @@ composable-requires : tie.Need-composable-requires
 composable-requires c κs = search needs
 
 returns : tie.Need-returns
-unfolding productChecks composableChecks sizeChecks
+unfolding productChecks
 returns c = search needs
 
 pub product-spec : {M : Type 1} → statement M

@@ -1,5 +1,4 @@
 use Rattle.theory.specs.Checks.{refinementChecks}
-use Rattle.table.specs.Room.{sizeChecks}
 use Rattle.table.proofs.PairChecks.{stopped, went-on, few}
 use borrow.Author.Needs.{needs}
 use Rattle.table.proofs.checks.refinement.Statement.{statement}
@@ -22,7 +21,7 @@ sizes-requires : tie.Need-sizes-requires
 sizes-requires c κs = search (few, needs)
 
 returns-2 : tie.Need-returns-2
-unfolding refinementChecks sizeChecks
+unfolding refinementChecks
 returns-2 c = search (went-on, needs)
 
 pub refinement-spec : {M : Type 1} → statement M
