@@ -9,8 +9,9 @@ use lib.ListN.{getD, length}
 use borrow.Author.Tests.{eq-eqb, ne-eqb, le-ltb}
 use Rattle.theory.specs.declared.Location.the-variants.{Cell}
 use Rattle.theory.specs.Bounded.{any}
-use Rattle.theory.specs.Table.{member}
+use Rattle.theory.specs.Table.{header, member}
 use Rattle.theory.specs.Checks.{first, refuseAt, check4, tableChecks}
+use Rattle.theory.proofs.Checks.{lists-overlap}
 use Rattle.theory.proofs.Filled.{any-default}
 use Rattle.packed.specs.Bytes.{cellsOfBytes, tableOfBytes}
 use Rattle.packed.proofs.Unpacking.{cellIn, at-cell, count-odd, count-all, cells-count, cells-at}
@@ -29,7 +30,7 @@ module _ (states : ℕ) (bytes : List ℕ) (few : states ≤ 4096) where
       (cond (any 32 (λ a. member inputs a && member outputs a)) (refuseAt 3 i (Cell 0 0)) (refuseAt 4 i (Cell 0 0)))
   unfolding first tableChecks
   four-in-place i initial inputs outputs some odd =
-      rw (ne-eqb states 0 (λ e. omega arith), le-ltb 4096 states few, cells-count states bytes, ← count-odd states (length bytes) few odd, ne-eqb 0 (states * 32) (λ e. omega arith))
+      rw (ne-eqb states 0 (λ e. omega arith), le-ltb 4096 states few, lists-overlap (header states initial inputs outputs), cells-count states bytes, ← count-odd states (length bytes) few odd, ne-eqb 0 (states * 32) (λ e. omega arith))
 
   module _ (all : length bytes ≡ states * 64) where
     sized : length (cellsOfBytes states bytes) ≡ states * 32
