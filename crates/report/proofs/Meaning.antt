@@ -2,12 +2,11 @@
 -- of the composition, more than 1,024 pairs get 10, and a refusal leaves nothing half done in the lent buffers.
 use mathlib.Core.Path.{_≡_, refl, ap, _∙_}
 use mathlib.Core.Logic.{_↔_}
-use mathlib.Core.Bool.{Bool, true, false, not, _||_, cond}
+use mathlib.Core.Bool.{Bool, true, false, cond}
 use mathlib.Core.List.{List, [], _∷_, _++_, append-nil}
 use Prim.Native.Nat.{ℕ, _+_, _*_, _/_, _%_, _≤_, _<_}
 use native.Mathlib.Omega.{arith}
-use native.Mathlib.Decide.{ℕ-discrete}
-use lib.Dec.{T, eqb, ltb}
+use lib.Dec.{T}
 use lib.ListN.{length, getD, drop, replicate}
 use borrow.Author.Tests.{ne-eqb}
 use Rattle.theory.specs.declared.Checked.{Checked}
@@ -15,10 +14,10 @@ use Rattle.theory.specs.declared.Checked.the-variants.{Accepted, Refused}
 use Rattle.theory.specs.Numbered.{interface, reached}
 use Rattle.theory.specs.Reachability.{End}
 use Rattle.theory.specs.Table.{Table, automaton, mirrorTable, cellsOf, composition, synthesis, controller, keptCount, stepCount, isEnd, endCount}
-use Rattle.theory.specs.Checks.{first, refuse, uncovered, eachTable, synthesisChecks}
+use Rattle.theory.specs.Checks.{first, refuse, wrongCells, wrongBytes, synthesisChecks}
 use Rattle.theory.specs.Demand.{Premises}
 use Rattle.theory.proofs.Bounded.{length-tabulate, count-le}
-use Rattle.theory.proofs.Checks.{first-part, first-refused, first-accepted, both-passed, checks-premises, premises-checks}
+use Rattle.theory.proofs.Checks.{first-part, first-refused, synthesis-accepted, checks-premises, premises-ten}
 use Rattle.theory.proofs.Controller.{mirror-valid}
 use Rattle.theory.proofs.Tests.{or-right}
 use Rattle.theory.proofs.Verdicts as verdicts
@@ -64,13 +63,6 @@ pub record Ends (a b : Table) : Type 0 where
   -- .. and under none there is no end.
   pub none : ¬ T (synthesis a b .compatible) → endCount (controller a b) (synthesis a b .flags) ≡ 0
 
--- Of three tests the third alone applies.
-third : (x y z : Bool) (r₁ r₂ r₃ r₄ : Checked) → ¬ T x → ¬ T y → T z → cond x r₁ (cond y r₂ (cond z r₃ r₄)) ≡ r₃
-third true y z r₁ r₂ r₃ r₄ g h t = absurd (g tt)
-third false true z r₁ r₂ r₃ r₄ g h t = absurd (h tt)
-third false false true r₁ r₂ r₃ r₄ g h t = refl
-third false false false r₁ r₂ r₃ r₄ g h t = absurd t
-
 module _ (m p : List ℕ) (a b : Table) (cells flags : ℕ) where
   abbrev count : ℕ
   count = a .header .states * b .header .states
@@ -103,13 +95,7 @@ module _ (m p : List ℕ) (a b : Table) (cells flags : ℕ) where
 
   -- Where no check applies, as many pairs are lent as there are.
   all-lent : first (reportChecks m p a b lent) ≡ Accepted → lent ≡ count
-  unfolding synthesisChecks
-  all-lent e =
-      let (_, (_, (_, (c, _)))) = both-passed a b _ .0 (maker-accepted e) in
-      elim (ℕ-discrete lent count) [
-        | yes q ↦ q
-        | no d ↦ absurd (c (or-right (not (eqb (lent * 32) (count * 32))) (not (eqb lent count)) (rw (ne-eqb lent count d) tt)))
-      ]
+  all-lent e = let (_, (_, flags)) = synthesis-accepted a b (lent * 32) lent .0 (maker-accepted e) in flags
 
   -- Figures are printed only where no check applies.
   pub figures-small : first (reportChecks m p a b lent) ≡ Accepted → Small a b
@@ -138,14 +124,9 @@ module _ (m p : List ℕ) (a b : Table) (cells flags : ℕ) where
       }
 
   makers-ten : Premises a b → 1024 < count → first (synthesisChecks a b (lent * 32) lent) ≡ refuse 10 0
-  unfolding synthesisChecks first
   makers-ten v more =
-      let (_, (c8, (c9, _))) = both-passed a b _ .0 (premises-checks a b v) in
       let d : (lent ≡ count) → ⊥ = λ q. omega (arith, lent-small) in
-      let z : Bool = not (eqb (lent * 32) (count * 32)) || not (eqb lent count) in
-      let c10 : T z = or-right (not (eqb (lent * 32) (count * 32))) (not (eqb lent count)) (rw (ne-eqb lent count d) tt) in
-      first-accepted (eachTable a b) _ (first-part (eachTable a b) _ (premises-checks a b v) .0)
-      ∙ third (uncovered (a .header) (b .header)) (ltb 4096 count) z (refuse 8 0) (refuse 9 0) (refuse 10 0) Accepted c8 c9 c10
+      premises-ten a b (lent * 32) lent v (or-right (wrongCells count (lent * 32)) (wrongBytes count lent) (rw (ne-eqb lent count d) tt))
 
   -- More than 1,024 pairs gets 10, of tables that no earlier check refuses.
   pub too-many : Premises a b → 1024 < count → first (reportChecks m p a b lent) ≡ refuse 10 0

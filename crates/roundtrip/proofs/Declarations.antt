@@ -27,7 +27,7 @@ use Rattle.roundtrip.proofs.Rows.{Writable, apart-names, signal-plain, 
 
 -- The lists of a table at a declared signal are those of its role.
 role-only : (t : Table) (a : ℕ) → Valid t → T (declared t a) → rolesAt (t .header) a ≡ only (roleOf t a)
-role-only t a v d = go (member (t .header .inputs) a) (member (t .header .outputs) a) (v .disjoint a) d
+role-only t a v d = go (member (t .header .inputs) a) (member (t .header .outputs) a) (v .disjoint .inputs a) d
   where
     go : (x y : Bool) → (T x → ¬ T y) → T (x || y) → _≡_ {A = Bool × Bool} (x, y) (only (cond x Input Output))
     go true true f d = absurd (f tt tt)

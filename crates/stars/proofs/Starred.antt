@@ -6,11 +6,11 @@ use Rattle.theory.specs.Bounded.{tabulate, any, count}
 use Rattle.theory.specs.Closure.{near, after, rounds, reachedFrom}
 use Rattle.theory.specs.Numbered.{productNext, illegal, incompatibility, unmatched, unrelated, listConditionFails}
 use Rattle.theory.specs.Table.{cellsOf, composition, synthesis, controller, refinement, keptCount, stepCount, isEnd, endCount}
-use Rattle.theory.specs.Checks.{first, tableChecks, eachTable, compatibilityChecks, compositionChecks, synthesisChecks, refinementChecks}
+use Rattle.theory.specs.Checks.{first, inSome, overlapping, tableChecks, sizeChecks, eachTable, composableChecks, compatibilityChecks, compositionChecks, synthesisChecks, refinementChecks}
 use Rattle.stars.specs.Situations.{situations, computed, stepsFrom, ref, plan}
 
 pub starred : map computed situations ≡ map (λ r. r .gives) situations
-unfolding tabulate any count near after rounds productNext illegal incompatibility unmatched unrelated listConditionFails reachedFrom cellsOf composition refinement keptCount stepCount endCount first tableChecks eachTable compatibilityChecks compositionChecks synthesisChecks refinementChecks situations stepsFrom
+unfolding tabulate any count near after rounds productNext illegal incompatibility unmatched unrelated listConditionFails reachedFrom cellsOf composition refinement keptCount stepCount endCount first inSome overlapping tableChecks sizeChecks eachTable composableChecks compatibilityChecks compositionChecks synthesisChecks refinementChecks situations stepsFrom
 starred = refl
 
 -- 02, S-4: the one end of the run is pair 14.

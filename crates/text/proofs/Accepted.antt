@@ -259,7 +259,7 @@ accepted-valid l room st w = record {
   some-state = w .some-state;
   few-states = w .few-states;
   initial = w .initial;
-  disjoint = w .lists .disjoint;
+  disjoint = record { inputs = w .lists .disjoint };
   size = length-take-le (n * 32) (st .cells) (omega (arith, w .size, w .fits));
   sound = λ k h. rw (getD-take (n * 32) (st .cells) k 65535 h) (elim (w .steps k) [ inl e ↦ inl e | inr u ↦ inr (u .to) ]);
   known = λ s a u h e.
