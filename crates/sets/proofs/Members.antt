@@ -1,19 +1,19 @@
 -- Members of the empty set, of a power of two and of a set that gets one more; their number, and a bound on them; for any width.
 use mathlib.Core.Path.{_≡_, refl, sym, ap, ap₂, _∙_}
-use mathlib.Core.Bool.{Bool, true, false, _||_, or-true, or-false}
+use mathlib.Core.Bool.{Bool, true, false, not, _&&_, _||_, Bool·not-not}
 use Prim.Native.Nat.{ℕ, zero, suc, _+_, _-_, _/_, _%_, _^_, _<_}
 use native.Mathlib.Nat.{div-one, div-eq-of-lt, pow-suc, zero-div}
 use native.Mathlib.Decide.{decLt}
 use native.Mathlib.Omega.{arith}
-use lib.Bits.{bitOr}
+use lib.Bits.{bitOr, and-self}
 use lib.Count.{leadingZeros, leading-length, ones, ones-step}
 use lib.Dec.{T, eqb, eqb·suc-suc, eqb·suc-zero}
 use lib.Pow.{pow-mono}
-use borrow.Author.Tests.{eq-eqb, ne-eqb}
-use Rattle.theory.specs.Bounded.{count, digit}
+use borrow.Author.Tests.{ne-eqb}
+use Rattle.theory.specs.Bounded.{any, count, digit}
 use Rattle.theory.specs.Sets.{has}
-use Rattle.theory.proofs.Bounded.{count-cong}
-use Rattle.theory.proofs.Sets.{low, has-suc, has-or}
+use Rattle.theory.proofs.Bounded.{any-cong, count-cong}
+use Rattle.theory.proofs.Sets.{low, has-suc, has-or, overlap}
 
 pub has-zero : (s : ℕ) → has s 0 ≡ eqb (s % 2) 1
 has-zero s = ap (λ x. eqb (x % 2) 1) (div-one s)
@@ -30,18 +30,18 @@ has-power (suc s) zero = rw (div-one (2 ^ suc s), ne-eqb 0 (suc s) (λ e. omega 
 has-power (suc s) (suc a) =
     has-suc (2 ^ suc s) a ∙ ap (λ x. has x a) (let z : 2 ^ suc s / 2 ≡ 2 ^ s = omega (arith, pow-suc 2 s) in z) ∙ has-power s a ∙ sym (eqb·suc-suc a s)
 
--- ---- one member more
-
-has-insert : (set s a : ℕ) → has (bitOr set (2 ^ s)) a ≡ (has set a || eqb a s)
+-- One member more.
+pub has-insert : (set s a : ℕ) → has (bitOr set (2 ^ s)) a ≡ (has set a || eqb a s)
 has-insert set s a = has-or set (2 ^ s) a ∙ ap (λ b. has set a || b) (has-power s a)
 
-pub has-inserted : (set s : ℕ) → has (bitOr set (2 ^ s)) s ≡ true
-has-inserted set s = has-insert set s s ∙ rw (eq-eqb s s refl) (or-true (has set s))
-
-pub has-other : (set s a : ℕ) → ¬ (a ≡ s) → has (bitOr set (2 ^ s)) a ≡ has set a
-has-other set s a ne = has-insert set s a ∙ rw (ne-eqb a s ne) (or-false (has set a))
-
--- ---- their number
+-- A set is empty exactly if no number is a member.
+pub empty-set : (w s : ℕ) → s < 2 ^ w → eqb s 0 ≡ not (any w (has s))
+empty-set w s h =
+    sym (ap not (any-cong w _ _ (λ a l. sym (and-same (has s a))) ∙ overlap w s s h ∙ ap (λ x. not (eqb x 0)) (and-self s)) ∙ Bool·not-not (eqb s 0))
+  where
+    and-same : (b : Bool) → (b && b) ≡ b
+    and-same true = refl
+    and-same false = refl
 
 count-suc : (w : ℕ) (f : ℕ → Bool) → count (suc w) f ≡ digit (f 0) + count w (λ a. f (suc a))
 unfolding count
