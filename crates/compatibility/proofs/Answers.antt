@@ -10,12 +10,13 @@ use Rattle.theory.specs.Bounded.{digit, tabulate}
 use Rattle.theory.specs.Closure.{ranked}
 use Rattle.theory.specs.Closure as closures
 use Rattle.theory.specs.Numbered.{pair, incompatibility}
-use Rattle.theory.specs.Table.{Table, table, automaton, composition}
+use Rattle.theory.specs.Table.{Table, table, automaton, composition, pairCount}
+use Rattle.table.specs.Ready.{Ready}
+use Rattle.table.proofs.ReadySizes.{start-below}
 use Rattle.search.specs.Kernel.{encoded}
 use Rattle.search.specs.declared.Question.{Question}
-use Rattle.search.specs.Search.{pairCount, pairRanks, rankedPairs, pairRounds, flagged}
-use Rattle.search.specs.Ready.{Ready}
-use Rattle.search.proofs.Answers.{ranked-all, rounds-all, flags-are, verdict-is, start-below}
+use Rattle.search.specs.Search.{pairRanks, rankedPairs, pairRounds, flagged}
+use Rattle.search.proofs.Answers.{ranked-all, rounds-all, flags-are, verdict-is}
 use Rattle.compatibility.specs.declared.Compatibility.the-variants as compatibility
 use Rattle.compatibility.specs.Replies.{compatibilityQuestion, decidedOf}
 use Rattle.compatibility.proofs.Laws.{ranks-are}

@@ -7,19 +7,15 @@ use lib.Dec.{eqb}
 use lib.ListN.{getD, length}
 use Rattle.theory.specs.declared.Automaton.{Automaton}
 use Rattle.theory.specs.Table.{Table, composition, productHeader}
+use Rattle.table.specs.Ready.{Ready}
+use Rattle.table.proofs.ReadySizes.{start-below}
 use Rattle.search.specs.declared.Question.{Question}
 use Rattle.search.specs.Search.{rankedPairs, pairRounds, flagged}
-use Rattle.search.specs.Ready.{Ready}
-use Rattle.search.proofs.Answers.{start-below}
 use Rattle.product.specs.Kept.{keptFilled}
 use Rattle.compatibility.specs.Replies.{compatibilityQuestion}
 use Rattle.compatibility.proofs.Answers.{decide-verdict, decide-rounds, decide-ranks}
 use Rattle.composition.specs.declared.Composition.the-variants as composed
-use Rattle.composition.specs.Replies.{Bounded}
 use Rattle.composition.proofs.Cells.{composition-cells}
-
-pub ready-bounded : (p q : Table) (n : ℕ) → Ready p q n → Bounded (p .header) (q .header)
-ready-bounded p q n r = record { initial = start-below p q n r; few = r .few }
 
 module _ (p q : Table) (g : Question) (ranks ranks′ cells flags flags′ : List ℕ) (r : Ready p q (length flags)) (long : length ranks ≡ length flags)
     (wide : length cells ≡ length flags * 32) (asked : g ≡ compatibilityQuestion (p .header) (q .header))
