@@ -1,7 +1,7 @@
 // Refusals: every refusal of a call on tables is made here, and turned into plain numbers for C.
 ghost use mathlib.Core.Path.{_≡_};
 ghost use Rattle.theory.specs.declared.Location.the-variants.{Cell, Nowhere};
-ghost use Rattle.theory.specs.Checks.{refuse as refused, refuseAt as refusedAt, cellOf};
+ghost use Rattle.theory.specs.Checks.{refusal as refusalOf, refuse as refused, refuseAt as refusedAt, cellOf};
 ghost use Rattle.table.specs.Statuses.{statusNowhere, statusOf, acceptedStatus};
 use crate::Status;
 use theory::Checked;
@@ -10,7 +10,7 @@ use theory::Refusal;
 
 // Makes a refusal with its location. Every refusal of a call on tables is made here.
 pub fn refusal_at(number: u32, table: u32, location: Location) -> Refusal
-    ensures { λ r. ⌜ r ≡ record { number = number; table = table; location = location } ⌝ }
+    ensures { λ r. ⌜ r ≡ refusalOf number table location ⌝ }
 {
     Refusal {
         number,
@@ -21,7 +21,7 @@ pub fn refusal_at(number: u32, table: u32, location: Location) -> Refusal
 
 // Makes a refusal that names no cell: those with a number from 7 on (document 02, S-2).
 pub fn refusal(number: u32, table: u32) -> Refusal
-    ensures { λ r. ⌜ r ≡ record { number = number; table = table; location = Nowhere } ⌝ }
+    ensures { λ r. ⌜ r ≡ refusalOf number table Nowhere ⌝ }
 {
     refusal_at(number, table, Location::Nowhere)
 }
