@@ -7,6 +7,7 @@ use Rattle.theory.specs.declared.Automaton.{Automaton}
 use Rattle.theory.specs.declared.Refusal.{Refusal}
 use Rattle.theory.specs.declared.Checked.{Checked}
 use Rattle.theory.specs.declared.Checked.the-variants as checks
+use Rattle.theory.specs.Table.{header}
 use Rattle.table.specs.declared.Status.{Status}
 use Rattle.table.specs.Statuses.{statusNowhere, statusOf, acceptedStatus}
 use Rattle.table.specs.declared.Mirrored.{Mirrored}
@@ -34,7 +35,7 @@ use Rattle.harness.specs.declared.replies.Reply.{Reply}
 -- ---- the shapes
 
 abbrev pub noTable : Automaton
-noTable = record { states = 0; initial = 0; inputs = 0; outputs = 0 }
+noTable = header 0 0 0 0
 
 abbrev pub wholeReply : Status → ℕ → Bool → ℕ → Automaton → Automaton → Reply
 wholeReply s line verdict value a b = record {

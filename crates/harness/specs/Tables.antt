@@ -1,8 +1,8 @@
--- The tables that the calls are given.
+-- The tables that C calls are given.
 use Prim.Native.Nat.{ℕ}
 use mathlib.Core.List.{List}
-use Rattle.theory.specs.Table.{Table, table}
+use Rattle.theory.specs.Table.{Table, table, header}
 
--- The numbers of a table are given one by one.
+-- The table of a call, which is given the numbers of the header one by one.
 abbrev pub tableOf : ℕ → ℕ → ℕ → ℕ → List ℕ → Table
-tableOf states initial inputs outputs cells = table (record { states = states; initial = initial; inputs = inputs; outputs = outputs }) cells
+tableOf states initial inputs outputs cells = table (header states initial inputs outputs) cells

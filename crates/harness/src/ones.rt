@@ -11,7 +11,6 @@ ghost use Rattle.harness.specs.Replies.{judged, mirrored, followed};
 ghost use Rattle.harness.specs.Tables.{tableOf};
 use crate::replies;
 use crate::replies::Reply;
-use theory::Automaton;
 
 // Judges a table.
 #[no_mangle]
@@ -24,12 +23,7 @@ pub extern "C" fn harness_judge(
 ) -> Reply
     ensures { λ r. ⌜ r ≡ judged (first (tableChecks 1 (tableOf states initial inputs outputs (now (cells .entry))))) ⌝ }
 {
-    let a = Automaton {
-        states,
-        initial,
-        inputs,
-        outputs,
-    };
+    let a = table::header(states, initial, inputs, outputs);
     replies::judged(table::judge(a, cells))
 }
 
@@ -44,12 +38,7 @@ pub extern "C" fn harness_mirror(
 ) -> Reply
     ensures { λ r. ⌜ r ≡ mirrored (mirrorReply (tableOf states initial inputs outputs (now (cells .entry)))) ⌝ }
 {
-    let a = Automaton {
-        states,
-        initial,
-        inputs,
-        outputs,
-    };
+    let a = table::header(states, initial, inputs, outputs);
     replies::mirrored(table::mirror(a, cells))
 }
 
@@ -66,12 +55,7 @@ pub extern "C" fn harness_follow(
 ) -> Reply
     ensures { λ r. ⌜ r ≡ followed state (followReply (tableOf states initial inputs outputs (now (cells .entry))) state signal) ⌝ }
 {
-    let a = Automaton {
-        states,
-        initial,
-        inputs,
-        outputs,
-    };
+    let a = table::header(states, initial, inputs, outputs);
     replies::followed(state, table::follow(a, cells, state, signal))
 }
 
@@ -111,12 +95,7 @@ pub extern "C" fn harness_count_ends(
 ) -> usize
     ensures { λ r. ⌜ r ≡ endsIn (tableOf states initial inputs outputs (now (cells .entry))) (now (flags .entry)) ⌝ }
 {
-    let a = Automaton {
-        states,
-        initial,
-        inputs,
-        outputs,
-    };
+    let a = table::header(states, initial, inputs, outputs);
     reach::count_ends(a, cells, flags)
 }
 

@@ -47,12 +47,7 @@ pub struct Reply {
 fn none() -> Automaton
     ensures { λ r. ⌜ r ≡ noTable ⌝ }
 {
-    Automaton {
-        states: 0,
-        initial: 0,
-        inputs: 0,
-        outputs: 0,
-    }
+    table::header(0, 0, 0, 0)
 }
 
 // Every field of the record.

@@ -16,7 +16,6 @@ ghost use Rattle.harness.specs.Replies.{aloneRead, togetherRead, named, 
 ghost use Rattle.harness.specs.Tables.{tableOf};
 use crate::replies;
 use crate::replies::Reply;
-use theory::Automaton;
 
 // Reads a text alone; the cells of its table are in the lent buffer.
 #[no_mangle]
@@ -147,12 +146,7 @@ pub extern "C" fn harness_write(
     ensures { λ r. ⌜ r ≡ written (writerReply (tableOf states initial inputs outputs (now (cells .entry))) (now (name .entry)) (texts (now (names .entry))) (length (now (out .entry)))) ⌝ }
     ensures { λ r. ⌜ now (out .exit) ≡ writerBytes (tableOf states initial inputs outputs (now (cells .entry))) (now (name .entry)) (texts (now (names .entry))) (now (out .entry)) ⌝ }
 {
-    let a = Automaton {
-        states,
-        initial,
-        inputs,
-        outputs,
-    };
+    let a = table::header(states, initial, inputs, outputs);
     replies::written(writer::write(a, cells, name, names, out))
 }
 

@@ -9,7 +9,6 @@ ghost use Rattle.harness.specs.Replies.{multiplied, fitted, composed, re
 ghost use Rattle.harness.specs.Tables.{tableOf};
 use crate::replies;
 use crate::replies::Reply;
-use theory::Automaton;
 
 // Builds the product; its cells are in the lent buffer.
 #[no_mangle]
@@ -26,21 +25,17 @@ pub extern "C" fn harness_product(
     cells_b: &[u16],
     cells: &mut [u16],
 ) -> Reply
-    ensures { λ r. ⌜ r ≡ multiplied (productReply (tableOf «states_a» «initial_a» «inputs_a» «outputs_a» (now («cells_a» .entry))) (tableOf «states_b» «initial_b» «inputs_b» «outputs_b» (now («cells_b» .entry))) (length (now (cells .entry)))) ⌝ }
-    ensures { λ r. ⌜ now (cells .exit) ≡ productCells (tableOf «states_a» «initial_a» «inputs_a» «outputs_a» (now («cells_a» .entry))) (tableOf «states_b» «initial_b» «inputs_b» «outputs_b» (now («cells_b» .entry))) (now (cells .entry)) ⌝ }
+    ensures { λ r. ⌜ r ≡ multiplied (productReply
+        (tableOf «states_a» «initial_a» «inputs_a» «outputs_a» (now («cells_a» .entry)))
+        (tableOf «states_b» «initial_b» «inputs_b» «outputs_b» (now («cells_b» .entry)))
+        (length (now (cells .entry)))) ⌝ }
+    ensures { λ r. ⌜ now (cells .exit) ≡ productCells
+        (tableOf «states_a» «initial_a» «inputs_a» «outputs_a» (now («cells_a» .entry)))
+        (tableOf «states_b» «initial_b» «inputs_b» «outputs_b» (now («cells_b» .entry)))
+        (now (cells .entry)) ⌝ }
 {
-    let a = Automaton {
-        states: states_a,
-        initial: initial_a,
-        inputs: inputs_a,
-        outputs: outputs_a,
-    };
-    let b = Automaton {
-        states: states_b,
-        initial: initial_b,
-        inputs: inputs_b,
-        outputs: outputs_b,
-    };
+    let a = table::header(states_a, initial_a, inputs_a, outputs_a);
+    let b = table::header(states_b, initial_b, inputs_b, outputs_b);
     replies::multiplied(composition::product(a, cells_a, b, cells_b, cells))
 }
 
@@ -59,21 +54,17 @@ pub extern "C" fn harness_fit(
     cells_b: &[u16],
     flags: &mut [u8],
 ) -> Reply
-    ensures { λ r. ⌜ r ≡ fitted (compatibilityReply (tableOf «states_a» «initial_a» «inputs_a» «outputs_a» (now («cells_a» .entry))) (tableOf «states_b» «initial_b» «inputs_b» «outputs_b» (now («cells_b» .entry))) (length (now (flags .entry)))) ⌝ }
-    ensures { λ r. ⌜ now (flags .exit) ≡ compatibilityFlags (tableOf «states_a» «initial_a» «inputs_a» «outputs_a» (now («cells_a» .entry))) (tableOf «states_b» «initial_b» «inputs_b» «outputs_b» (now («cells_b» .entry))) (now (flags .entry)) ⌝ }
+    ensures { λ r. ⌜ r ≡ fitted (compatibilityReply
+        (tableOf «states_a» «initial_a» «inputs_a» «outputs_a» (now («cells_a» .entry)))
+        (tableOf «states_b» «initial_b» «inputs_b» «outputs_b» (now («cells_b» .entry)))
+        (length (now (flags .entry)))) ⌝ }
+    ensures { λ r. ⌜ now (flags .exit) ≡ compatibilityFlags
+        (tableOf «states_a» «initial_a» «inputs_a» «outputs_a» (now («cells_a» .entry)))
+        (tableOf «states_b» «initial_b» «inputs_b» «outputs_b» (now («cells_b» .entry)))
+        (now (flags .entry)) ⌝ }
 {
-    let a = Automaton {
-        states: states_a,
-        initial: initial_a,
-        inputs: inputs_a,
-        outputs: outputs_a,
-    };
-    let b = Automaton {
-        states: states_b,
-        initial: initial_b,
-        inputs: inputs_b,
-        outputs: outputs_b,
-    };
+    let a = table::header(states_a, initial_a, inputs_a, outputs_a);
+    let b = table::header(states_b, initial_b, inputs_b, outputs_b);
     replies::fitted(compatibility::compatible(a, cells_a, b, cells_b, flags))
 }
 
@@ -93,22 +84,21 @@ pub extern "C" fn harness_compose(
     cells: &mut [u16],
     flags: &mut [u8],
 ) -> Reply
-    ensures { λ r. ⌜ r ≡ composed (compositionReply (tableOf «states_a» «initial_a» «inputs_a» «outputs_a» (now («cells_a» .entry))) (tableOf «states_b» «initial_b» «inputs_b» «outputs_b» (now («cells_b» .entry))) (length (now (cells .entry))) (length (now (flags .entry)))) ⌝ }
-    ensures { λ r. ⌜ now (cells .exit) ≡ compositionCells (tableOf «states_a» «initial_a» «inputs_a» «outputs_a» (now («cells_a» .entry))) (tableOf «states_b» «initial_b» «inputs_b» «outputs_b» (now («cells_b» .entry))) (now (cells .entry)) (length (now (flags .entry))) ⌝ }
-    ensures { λ r. ⌜ now (flags .exit) ≡ compositionFlags (tableOf «states_a» «initial_a» «inputs_a» «outputs_a» (now («cells_a» .entry))) (tableOf «states_b» «initial_b» «inputs_b» «outputs_b» (now («cells_b» .entry))) (length (now (cells .entry))) (now (flags .entry)) ⌝ }
+    ensures { λ r. ⌜ r ≡ composed (compositionReply
+        (tableOf «states_a» «initial_a» «inputs_a» «outputs_a» (now («cells_a» .entry)))
+        (tableOf «states_b» «initial_b» «inputs_b» «outputs_b» (now («cells_b» .entry)))
+        (length (now (cells .entry))) (length (now (flags .entry)))) ⌝ }
+    ensures { λ r. ⌜ now (cells .exit) ≡ compositionCells
+        (tableOf «states_a» «initial_a» «inputs_a» «outputs_a» (now («cells_a» .entry)))
+        (tableOf «states_b» «initial_b» «inputs_b» «outputs_b» (now («cells_b» .entry)))
+        (now (cells .entry)) (length (now (flags .entry))) ⌝ }
+    ensures { λ r. ⌜ now (flags .exit) ≡ compositionFlags
+        (tableOf «states_a» «initial_a» «inputs_a» «outputs_a» (now («cells_a» .entry)))
+        (tableOf «states_b» «initial_b» «inputs_b» «outputs_b» (now («cells_b» .entry)))
+        (length (now (cells .entry))) (now (flags .entry)) ⌝ }
 {
-    let a = Automaton {
-        states: states_a,
-        initial: initial_a,
-        inputs: inputs_a,
-        outputs: outputs_a,
-    };
-    let b = Automaton {
-        states: states_b,
-        initial: initial_b,
-        inputs: inputs_b,
-        outputs: outputs_b,
-    };
+    let a = table::header(states_a, initial_a, inputs_a, outputs_a);
+    let b = table::header(states_b, initial_b, inputs_b, outputs_b);
     replies::composed(composition::compose(a, cells_a, b, cells_b, cells, flags))
 }
 
@@ -127,21 +117,17 @@ pub extern "C" fn harness_refine(
     cells_b: &[u16],
     marks: &mut [u8],
 ) -> Reply
-    ensures { λ r. ⌜ r ≡ refined (refinementReply (tableOf «states_a» «initial_a» «inputs_a» «outputs_a» (now («cells_a» .entry))) (tableOf «states_b» «initial_b» «inputs_b» «outputs_b» (now («cells_b» .entry))) (length (now (marks .entry)))) ⌝ }
-    ensures { λ r. ⌜ now (marks .exit) ≡ refinementMarks (tableOf «states_a» «initial_a» «inputs_a» «outputs_a» (now («cells_a» .entry))) (tableOf «states_b» «initial_b» «inputs_b» «outputs_b» (now («cells_b» .entry))) (now (marks .entry)) ⌝ }
+    ensures { λ r. ⌜ r ≡ refined (refinementReply
+        (tableOf «states_a» «initial_a» «inputs_a» «outputs_a» (now («cells_a» .entry)))
+        (tableOf «states_b» «initial_b» «inputs_b» «outputs_b» (now («cells_b» .entry)))
+        (length (now (marks .entry)))) ⌝ }
+    ensures { λ r. ⌜ now (marks .exit) ≡ refinementMarks
+        (tableOf «states_a» «initial_a» «inputs_a» «outputs_a» (now («cells_a» .entry)))
+        (tableOf «states_b» «initial_b» «inputs_b» «outputs_b» (now («cells_b» .entry)))
+        (now (marks .entry)) ⌝ }
 {
-    let a = Automaton {
-        states: states_a,
-        initial: initial_a,
-        inputs: inputs_a,
-        outputs: outputs_a,
-    };
-    let b = Automaton {
-        states: states_b,
-        initial: initial_b,
-        inputs: inputs_b,
-        outputs: outputs_b,
-    };
+    let a = table::header(states_a, initial_a, inputs_a, outputs_a);
+    let b = table::header(states_b, initial_b, inputs_b, outputs_b);
     replies::refined(refinement::refine(a, cells_a, b, cells_b, marks))
 }
 
@@ -161,21 +147,20 @@ pub extern "C" fn harness_synthesize(
     cells: &mut [u16],
     flags: &mut [u8],
 ) -> Reply
-    ensures { λ r. ⌜ r ≡ synthesized (synthesisReply (tableOf «states_a» «initial_a» «inputs_a» «outputs_a» (now («cells_a» .entry))) (tableOf «states_b» «initial_b» «inputs_b» «outputs_b» (now («cells_b» .entry))) (length (now (cells .entry))) (length (now (flags .entry)))) ⌝ }
-    ensures { λ r. ⌜ now (cells .exit) ≡ synthesisCells (tableOf «states_a» «initial_a» «inputs_a» «outputs_a» (now («cells_a» .entry))) (tableOf «states_b» «initial_b» «inputs_b» «outputs_b» (now («cells_b» .entry))) (now (cells .entry)) (length (now (flags .entry))) ⌝ }
-    ensures { λ r. ⌜ now (flags .exit) ≡ synthesisFlags (tableOf «states_a» «initial_a» «inputs_a» «outputs_a» (now («cells_a» .entry))) (tableOf «states_b» «initial_b» «inputs_b» «outputs_b» (now («cells_b» .entry))) (length (now (cells .entry))) (now (flags .entry)) ⌝ }
+    ensures { λ r. ⌜ r ≡ synthesized (synthesisReply
+        (tableOf «states_a» «initial_a» «inputs_a» «outputs_a» (now («cells_a» .entry)))
+        (tableOf «states_b» «initial_b» «inputs_b» «outputs_b» (now («cells_b» .entry)))
+        (length (now (cells .entry))) (length (now (flags .entry)))) ⌝ }
+    ensures { λ r. ⌜ now (cells .exit) ≡ synthesisCells
+        (tableOf «states_a» «initial_a» «inputs_a» «outputs_a» (now («cells_a» .entry)))
+        (tableOf «states_b» «initial_b» «inputs_b» «outputs_b» (now («cells_b» .entry)))
+        (now (cells .entry)) (length (now (flags .entry))) ⌝ }
+    ensures { λ r. ⌜ now (flags .exit) ≡ synthesisFlags
+        (tableOf «states_a» «initial_a» «inputs_a» «outputs_a» (now («cells_a» .entry)))
+        (tableOf «states_b» «initial_b» «inputs_b» «outputs_b» (now («cells_b» .entry)))
+        (length (now (cells .entry))) (now (flags .entry)) ⌝ }
 {
-    let a = Automaton {
-        states: states_a,
-        initial: initial_a,
-        inputs: inputs_a,
-        outputs: outputs_a,
-    };
-    let b = Automaton {
-        states: states_b,
-        initial: initial_b,
-        inputs: inputs_b,
-        outputs: outputs_b,
-    };
+    let a = table::header(states_a, initial_a, inputs_a, outputs_a);
+    let b = table::header(states_b, initial_b, inputs_b, outputs_b);
     replies::synthesized(synthesis::synthesize(a, cells_a, b, cells_b, cells, flags))
 }

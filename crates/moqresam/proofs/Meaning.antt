@@ -8,6 +8,7 @@ use Rattle.theory.specs.declared.Location.{Location}
 use Rattle.theory.specs.declared.Location.the-variants.{Cell, Nowhere}
 use Rattle.theory.specs.declared.Refusal.{Refusal}
 use Rattle.theory.specs.Table.{Table}
+use Rattle.theory.specs.Checks.{refusal}
 use Rattle.theory.specs.Locations.{Located, of-table, of-five, of-six, nowhere, LocatedIn, LocatedAt}
 use Rattle.table.specs.Statuses.{statusOf, acceptedStatus}
 use Rattle.table.specs.declared.Followed.{Followed}
@@ -34,13 +35,13 @@ nothing-placed P = record {
 }
 
 -- A refusal at a cell, by a number from 1 to 6.
-cell-placed : (P : Refusal → Type 0) (n i s a : ℕ) → 1 ≤ n → n ≤ 6 → P (record { number = n; table = i; location = Cell s a })
-    → Placed P (statusOf (record { number = n; table = i; location = Cell s a }))
+cell-placed : (P : Refusal → Type 0) (n i s a : ℕ) → 1 ≤ n → n ≤ 6 → P (refusal n i (Cell s a))
+    → Placed P (statusOf (refusal n i (Cell s a)))
 cell-placed P n i s a low high p = record { exactly = (λ t. (low, high), λ p. tt); otherwise = λ n. absurd (n tt); located = λ l. p }
 
 -- A refusal at none, by a higher number.
-none-placed : (P : Refusal → Type 0) (n i : ℕ) → 7 ≤ n → P (record { number = n; table = i; location = Nowhere })
-    → Placed P (statusOf (record { number = n; table = i; location = Nowhere }))
+none-placed : (P : Refusal → Type 0) (n i : ℕ) → 7 ≤ n → P (refusal n i Nowhere)
+    → Placed P (statusOf (refusal n i Nowhere))
 none-placed P n i high p = record { exactly = (λ t. absurd t, λ p. absurd (omega (arith, p .1))); otherwise = λ n. (refl, refl); located = λ l. p }
 
 -- ---- any call whose refusals are located
@@ -49,24 +50,24 @@ no-cell : {s a : ℕ} → ¬ (Nowhere ≡ Cell s a)
 no-cell e = let z : _≡_ {A = ℕ} 0 1 = cc in omega arith
 
 module _ (five six : ℕ → Location → Type 0) (at-five : (i : ℕ) → ¬ five i Nowhere) (at-six : (i : ℕ) → ¬ six i Nowhere) where
-  status-placed : (n i : ℕ) (l : Location) → Located five six (record { number = n; table = i; location = l })
-      → Placed (Located five six) (statusOf (record { number = n; table = i; location = l }))
+  status-placed : (n i : ℕ) (l : Location) → Located five six (refusal n i l)
+      → Placed (Located five six) (statusOf (refusal n i l))
   status-placed n i (Cell s a) p = cell-placed (Located five six) n i s a (low p) (high p) p
     where
-      low : Located five six (record { number = n; table = i; location = Cell s a }) → 1 ≤ n
+      low : Located five six (refusal n i (Cell s a)) → 1 ≤ n
       low (of-table l h e) = l
       low (of-five e q) = omega arith
       low (of-six e q) = omega arith
       low (nowhere h e) = omega arith
 
-      high : Located five six (record { number = n; table = i; location = Cell s a }) → n ≤ 6
+      high : Located five six (refusal n i (Cell s a)) → n ≤ 6
       high (of-table l h e) = omega arith
       high (of-five e q) = omega arith
       high (of-six e q) = omega arith
       high (nowhere h e) = absurd (no-cell (sym e))
   status-placed n i Nowhere p = none-placed (Located five six) n i (high p) p
     where
-      high : Located five six (record { number = n; table = i; location = Nowhere }) → 7 ≤ n
+      high : Located five six (refusal n i Nowhere) → 7 ≤ n
       high (of-table l h e) = absurd (no-cell e)
       high (of-five e q) = absurd (at-five i q)
       high (of-six e q) = absurd (at-six i q)

@@ -6,6 +6,7 @@ use Prim.Native.Nat.{_≤_}
 use lib.Dec.{T}
 use Rattle.theory.specs.declared.Location.the-variants.{Cell, Nowhere}
 use Rattle.theory.specs.declared.Refusal.{Refusal}
+use Rattle.theory.specs.Checks.{refusal}
 use Rattle.table.specs.declared.Status.{Status}
 use Rattle.moqresam.specs.declared.FitReply.{FitReply}
 use Rattle.moqresam.specs.declared.RefineReply.{RefineReply}
@@ -22,7 +23,7 @@ abbrev pub ofFollow : FollowReply → Status
 ofFollow r = record { number = r .number; table = r .table; placed = r .placed; state = r .«cell_state»; action = r .«cell_signal» }
 
 abbrev pub refusalIn : Status → Refusal
-refusalIn s = record { number = s .number; table = s .table; location = cond (s .placed) (Cell (s .state) (s .action)) Nowhere }
+refusalIn s = refusal (s .number) (s .table) (cond (s .placed) (Cell (s .state) (s .action)) Nowhere)
 
 -- A cell is named exactly for numbers 1 to 6, both numbers are 0 where none is, and the refusal says the right place.
 pub record Placed (Right : Refusal → Type 0) (s : Status) : Type 0 where

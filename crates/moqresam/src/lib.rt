@@ -12,7 +12,6 @@ use compatibility::Compatibility;
 use refinement::Refined;
 use table::Followed;
 use table::Status;
-use theory::Automaton;
 
 // Reply of `moqresam_fit`: the number of the refusal and the table at fault, both 0 if nothing is refused; the verdict; how many rounds drop a
 // pair; whether the refusal names a cell, and the state and signal of that cell, 0 if it names none.
@@ -147,21 +146,17 @@ pub extern "C" fn moqresam_fit(
     cells_b: &[u8],
     flags: &mut [u8],
 ) -> FitReply
-    ensures { λ r. ⌜ r ≡ fitReply (compatibilityReply (tableOfBytes «states_a» «initial_a» «inputs_a» «outputs_a» (now («cells_a» .entry))) (tableOfBytes «states_b» «initial_b» «inputs_b» «outputs_b» (now («cells_b» .entry))) (length (now (flags .entry)))) ⌝ }
-    ensures { λ r. ⌜ now (flags .exit) ≡ compatibilityFlags (tableOfBytes «states_a» «initial_a» «inputs_a» «outputs_a» (now («cells_a» .entry))) (tableOfBytes «states_b» «initial_b» «inputs_b» «outputs_b» (now («cells_b» .entry))) (now (flags .entry)) ⌝ }
+    ensures { λ r. ⌜ r ≡ fitReply (compatibilityReply
+        (tableOfBytes «states_a» «initial_a» «inputs_a» «outputs_a» (now («cells_a» .entry)))
+        (tableOfBytes «states_b» «initial_b» «inputs_b» «outputs_b» (now («cells_b» .entry)))
+        (length (now (flags .entry)))) ⌝ }
+    ensures { λ r. ⌜ now (flags .exit) ≡ compatibilityFlags
+        (tableOfBytes «states_a» «initial_a» «inputs_a» «outputs_a» (now («cells_a» .entry)))
+        (tableOfBytes «states_b» «initial_b» «inputs_b» «outputs_b» (now («cells_b» .entry)))
+        (now (flags .entry)) ⌝ }
 {
-    let a = Automaton {
-        states: states_a,
-        initial: initial_a,
-        inputs: inputs_a,
-        outputs: outputs_a,
-    };
-    let b = Automaton {
-        states: states_b,
-        initial: initial_b,
-        inputs: inputs_b,
-        outputs: outputs_b,
-    };
+    let a = table::header(states_a, initial_a, inputs_a, outputs_a);
+    let b = table::header(states_b, initial_b, inputs_b, outputs_b);
     fit_reply(packed::fit(a, cells_a, b, cells_b, flags))
 }
 
@@ -189,21 +184,17 @@ pub extern "C" fn moqresam_refine(
     cells_b: &[u8],
     marks: &mut [u8],
 ) -> RefineReply
-    ensures { λ r. ⌜ r ≡ refineReply (refinementReply (tableOfBytes «states_a» «initial_a» «inputs_a» «outputs_a» (now («cells_a» .entry))) (tableOfBytes «states_b» «initial_b» «inputs_b» «outputs_b» (now («cells_b» .entry))) (length (now (marks .entry)))) ⌝ }
-    ensures { λ r. ⌜ now (marks .exit) ≡ refinementMarks (tableOfBytes «states_a» «initial_a» «inputs_a» «outputs_a» (now («cells_a» .entry))) (tableOfBytes «states_b» «initial_b» «inputs_b» «outputs_b» (now («cells_b» .entry))) (now (marks .entry)) ⌝ }
+    ensures { λ r. ⌜ r ≡ refineReply (refinementReply
+        (tableOfBytes «states_a» «initial_a» «inputs_a» «outputs_a» (now («cells_a» .entry)))
+        (tableOfBytes «states_b» «initial_b» «inputs_b» «outputs_b» (now («cells_b» .entry)))
+        (length (now (marks .entry)))) ⌝ }
+    ensures { λ r. ⌜ now (marks .exit) ≡ refinementMarks
+        (tableOfBytes «states_a» «initial_a» «inputs_a» «outputs_a» (now («cells_a» .entry)))
+        (tableOfBytes «states_b» «initial_b» «inputs_b» «outputs_b» (now («cells_b» .entry)))
+        (now (marks .entry)) ⌝ }
 {
-    let a = Automaton {
-        states: states_a,
-        initial: initial_a,
-        inputs: inputs_a,
-        outputs: outputs_a,
-    };
-    let b = Automaton {
-        states: states_b,
-        initial: initial_b,
-        inputs: inputs_b,
-        outputs: outputs_b,
-    };
+    let a = table::header(states_a, initial_a, inputs_a, outputs_a);
+    let b = table::header(states_b, initial_b, inputs_b, outputs_b);
     refine_reply(packed::refine(a, cells_a, b, cells_b, marks))
 }
 
@@ -220,12 +211,7 @@ pub extern "C" fn moqresam_follow(
 ) -> FollowReply
     ensures { λ r. ⌜ r ≡ monitorReply state (followReply (tableOfBytes states initial inputs outputs (now (cells .entry))) state signal) ⌝ }
 {
-    let a = Automaton {
-        states,
-        initial,
-        inputs,
-        outputs,
-    };
+    let a = table::header(states, initial, inputs, outputs);
     follow_reply(state, packed::follow(a, cells, state, signal))
 }
 
@@ -240,7 +226,10 @@ pub extern "C" fn moqresam_follow_record(
     follower: &mut Follower,
     signal: usize,
 ) -> FollowReply
-    ensures { λ r. ⌜ (r ≡ monitorReply (now (follower .entry) .state) (followReply (tableOfBytes states initial inputs outputs (now (cells .entry))) (now (follower .entry) .state) signal)) × (now (follower .exit) .state ≡ stateAfter (now (follower .entry) .state) (followReply (tableOfBytes states initial inputs outputs (now (cells .entry))) (now (follower .entry) .state) signal)) ⌝ }
+    ensures { λ r. ⌜ (r ≡ monitorReply (now (follower .entry) .state)
+        (followReply (tableOfBytes states initial inputs outputs (now (cells .entry))) (now (follower .entry) .state) signal))
+        × (now (follower .exit) .state ≡ stateAfter (now (follower .entry) .state)
+        (followReply (tableOfBytes states initial inputs outputs (now (cells .entry))) (now (follower .entry) .state) signal)) ⌝ }
 {
     let state = follower.state;
     let reply = moqresam_follow(states, initial, inputs, outputs, cells, state, signal);

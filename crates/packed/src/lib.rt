@@ -7,11 +7,10 @@ use theory::Automaton;
 use theory::Checked;
 
 mod cells;
-mod fit;
-mod refine;
+mod two_tables;
 
-pub use fit::fit;
-pub use refine::refine;
+pub use two_tables::fit;
+pub use two_tables::refine;
 
 // Makes one step of the monitor. It reads the one cell of the state and the signal, so a step takes as long in a large table as in a small one.
 pub fn follow(a: Automaton, bytes: &[u8], state: usize, signal: usize) -> Followed

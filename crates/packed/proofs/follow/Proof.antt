@@ -1,4 +1,4 @@
-use Rattle.packed.proofs.OwnCell.{bytes-refused, bytes-row, bytes-cell, bytes-own}
+use Rattle.packed.proofs.OwnCell.{bytes-refused, bytes-row, bytes-cell, bytes-at, bytes-own}
 use borrow.Author.Needs.{needs}
 use Rattle.packed.proofs.follow.Statement.{statement}
 use Rattle.packed.proofs.follow.Tie as tie
@@ -22,7 +22,7 @@ add-at : tie.Need-add-at
 add-at c = search (bytes-cell, needs)
 
 at-requires : tie.Need-at-requires
-at-requires c κs = search needs
+at-requires c κs = search (bytes-at, needs)
 
 advance-requires : tie.Need-advance-requires
 advance-requires c κs = search needs

@@ -1,4 +1,4 @@
-use Rattle.packed.proofs.Unpacking.{count-many, count-odd, count-all}
+use Rattle.packed.proofs.CellsInBytes.{count-many, count-other, count-all}
 use borrow.Author.Needs.{needs}
 use Rattle.packed.proofs.cells.count.Statement.{statement}
 use Rattle.packed.proofs.cells.count.Tie as tie
@@ -10,7 +10,7 @@ mul-if2 : tie.Need-mul-if2
 mul-if2 c = search needs
 
 returns-2 : tie.Need-returns-2
-returns-2 c = search (count-odd, needs)
+returns-2 c = search (count-other, needs)
 
 mul-result : tie.Need-mul-result
 mul-result c = search needs
