@@ -1,7 +1,19 @@
-// Headers: the actions that they declare, those that they send, and the mirror.
+// Headers: how one is made, the actions that it declares, those that it sends, and the mirror.
 ghost use mathlib.Core.Path.{_≡_};
-ghost use Rattle.theory.specs.Table.{declaredSet, sentSet, mirrorHeader};
+ghost use Rattle.theory.specs.Table.{header, declaredSet, sentSet, mirrorHeader};
 use theory::Automaton;
+
+// Makes a header. Every other function makes its headers by this one.
+pub fn header(states: usize, initial: usize, inputs: u32, outputs: u32) -> Automaton
+    ensures { λ r. ⌜ r ≡ header states initial inputs outputs ⌝ }
+{
+    Automaton {
+        states,
+        initial,
+        inputs,
+        outputs,
+    }
+}
 
 // Returns the declared actions: inputs and outputs together.
 pub fn declared(a: Automaton) -> u32
@@ -21,10 +33,5 @@ pub fn sent(a: Automaton) -> u32
 pub fn exchange(a: Automaton) -> Automaton
     ensures { λ r. ⌜ r ≡ mirrorHeader a ⌝ }
 {
-    Automaton {
-        states: a.states,
-        initial: a.initial,
-        inputs: a.outputs,
-        outputs: a.inputs,
-    }
+    header(a.states, a.initial, a.outputs, a.inputs)
 }

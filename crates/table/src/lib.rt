@@ -26,6 +26,7 @@ pub use counts::count_singly;
 pub use counts::count_steps;
 pub use headers::declared;
 pub use headers::exchange;
+pub use headers::header;
 pub use headers::sent;
 pub use monitor::advance;
 pub use monitor::check_position;
