@@ -4,14 +4,14 @@ use mathlib.Core.Bool.{Bool, true, false, not}
 use mathlib.Core.List.{List, []}
 use Prim.Native.Nat.{ℕ, _≤_, _<_}
 use native.Mathlib.Omega.{arith}
-use lib.Bits.{bitOr}
 use lib.ListN.{length}
 use borrow.Author.Tests.{not-false}
+use Rattle.theory.proofs.Tests.{is-false}
 use Rattle.theory.specs.declared.Automaton.{Automaton}
 use Rattle.theory.specs.declared.Checked.{Checked}
 use Rattle.theory.specs.declared.Checked.the-variants.{Accepted}
 use Rattle.theory.specs.Sets.{has}
-use Rattle.theory.specs.Table.{Table, table}
+use Rattle.theory.specs.Table.{declaredSet, Table, table}
 use Rattle.theory.specs.Checks.{first, refuse, declared}
 use Rattle.theory.proofs.Bounded.{any-cong}
 use Rattle.theory.proofs.Checks.{passed-first}
@@ -20,17 +20,17 @@ use Rattle.text.specs.declared.Spelling.{Spelling}
 use Rattle.text.specs.declared.Spelling.the-variants.{Exact, Folded}
 use Rattle.text.specs.Fields.{nameOk}
 use Rattle.text.specs.Writing.{nameOf, misnamed, ambiguous}
-use Rattle.text.proofs.Entries.{is-false}
 use Rattle.names.specs.Names.{anyOf, repeated, Named, nameChecks}
-use Rattle.names.proofs.Names.{short-name, named-all, exact-none}
+use Rattle.tokens.proofs.Names.{name-short}
+use Rattle.names.proofs.Names.{named-all, exact-none}
 
 -- The declared signals are the members of both lists' union.
-pub declared-has : (a : Automaton) (cells : List ℕ) (x : ℕ) → x < 32 → declared (table a cells) x ≡ has (bitOr (a .inputs) (a .outputs)) x
-declared-has a cells x h = sym (member-or (a .inputs) (a .outputs) x) ∙ has-member (bitOr (a .inputs) (a .outputs)) x h
+pub declared-has : (a : Automaton) (cells : List ℕ) (x : ℕ) → x < 32 → declared (table a cells) x ≡ has (declaredSet a) x
+declared-has a cells x h = sym (member-or (a .inputs) (a .outputs) x) ∙ has-member (declaredSet a) x h
 
 module _ (a : Automaton) (name : List ℕ) (names : List (List ℕ)) where
   abbrev acts : ℕ
-  acts = bitOr (a .inputs) (a .outputs)
+  acts = declaredSet a
 
   abbrev t : Table
   t = table a []
@@ -71,7 +71,7 @@ module _ (a : Automaton) (name : List ℕ) (names : List (List ℕ)) where
 
 -- Names that pass are there, and short; so is the table's.
 module _ (a : Automaton) (name : List ℕ) (names : List (List ℕ)) (e : first (nameChecks a name names) ≡ Accepted) where
-  pub passed-named : Named (bitOr (a .inputs) (a .outputs)) names
+  pub passed-named : Named (declaredSet a) names
   unfolding nameChecks
   passed-named =
       let (_, (signals, _)) = passed-first (nameChecks a name names) .0 e in
@@ -81,4 +81,4 @@ module _ (a : Automaton) (name : List ℕ) (names : List (List ℕ)) (e : first 
   unfolding nameChecks
   passed-short =
       let (title, _) = passed-first (nameChecks a name names) .0 e in
-      short-name name (not-false (nameOk name) (is-false (not (nameOk name)) title))
+      name-short name (not-false (nameOk name) (is-false (not (nameOk name)) title))

@@ -8,21 +8,21 @@ use native.Mathlib.Omega.{arith}
 use native.Mathlib.Decide.{decLt, ℕ-discrete}
 use denote.Ref.{RefT, now}
 use lib.Count.{trailingZeros}
-use lib.Dec.{T, leb}
+use lib.Dec.{T}
 use lib.ListN.{length, getD, length-map, List·getD-eq-default}
-use borrow.Author.Tests.{leb-true, not-false}
+use borrow.Author.Tests.{not-false}
 use Rattle.theory.specs.Bounded.{any}
 use Rattle.theory.specs.Sets.{has}
 use Rattle.theory.proofs.Bounded.{any-at, at-any}
-use Rattle.theory.proofs.Tests.{or-cases, or-left, or-right, and-left, and-right, and-both, same-test}
+use Rattle.theory.proofs.Tests.{is-false, is-true, or-cases, or-left, or-right, and-left, and-right, and-both, same-test}
 use Rattle.sets.proofs.Members.{has-none}
 use Rattle.sets.proofs.Visit.{low}
+use Rattle.tokens.proofs.Names.{name-short}
 use Rattle.text.specs.declared.Spelling.{Spelling}
 use Rattle.text.specs.declared.Spelling.the-variants.{Exact, Folded}
-use Rattle.text.specs.Fields.{matches, all, nameByte, nameOk}
+use Rattle.text.specs.Fields.{matches, nameOk}
 use Rattle.text.specs.Writing.{nameOf}
 use Rattle.text.proofs.Names.{same-match}
-use Rattle.text.proofs.Entries.{is-true, is-false}
 use Rattle.names.specs.Names.{texts, anyOf, repeated, Named}
 use Rattle.names.proofs.Visit.{any-lowest, any-empty, of-rest, to-rest}
 
@@ -38,15 +38,6 @@ lent-length l = length-map l (λ (x : RefT (List ℕ)). now x)
 
 no-name : (names : List (List ℕ)) (i : ℕ) → length names ≤ i → nameOf names i ≡ []
 no-name names i h = List·getD-eq-default names [] {n = i} h
-
-pub short-name : (s : List ℕ) → nameOk s ≡ true → length s ≤ 16
-unfolding nameOk
-short-name s e = leb-true (length s) 16 (within (leb 1 (length s)) (leb (length s) 16) e)
-  where
-    within : (a b : Bool) → (a && b && all nameByte s) ≡ true → b ≡ true
-    within true true e = refl
-    within true false e = e
-    within false b e = cc
 
 -- A set without a bad name has entries for all its members, none of them too long.
 module _ (set : ℕ) (names : List (List ℕ)) (e : anyOf set (λ (a : ℕ). not (nameOk (nameOf names a))) ≡ false) where
@@ -64,7 +55,7 @@ module _ (set : ℕ) (names : List (List ℕ)) (e : anyOf set (λ (a : ℕ). not
       | yes l ↦ l
       | no g ↦ let bad : false ≡ true = rw (no-name names a (omega arith)) at (good a k h) in absurd (subst T (sym bad) tt)
     ];
-    short = λ a k h. short-name (nameOf names a) (good a k h);
+    short = λ a k h. name-short (nameOf names a) (good a k h);
   }
 
 module _ (names : List (List ℕ)) (left : ℕ) (bound : left < 2 ^ 32) (some : ¬ (left ≡ 0)) (n : Named left names) where

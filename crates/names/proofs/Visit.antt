@@ -12,11 +12,10 @@ use borrow.Author.Tests.{eq-eqb, ne-eqb}
 use Rattle.theory.specs.Bounded.{any}
 use Rattle.theory.specs.Sets.{has}
 use Rattle.theory.proofs.Bounded.{any-at, at-any}
-use Rattle.theory.proofs.Tests.{or-cases, or-left, or-right, and-left, and-right, and-both, same-test}
+use Rattle.theory.proofs.Tests.{is-false, is-true, or-cases, or-left, or-right, and-left, and-right, and-both, same-test}
 use Rattle.sets.proofs.Members.{has-none}
 use Rattle.sets.proofs.Visit.{low}
 use Rattle.text.specs.Writing.{those}
-use Rattle.text.proofs.Entries.{is-true, is-false}
 
 -- ---- listed
 

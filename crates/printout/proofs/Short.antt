@@ -1,28 +1,16 @@
 -- How long the lines are: 26 bytes at most for a refusal, 24 for a clash, 72 for the six.
 use mathlib.Core.Path.{_≡_}
 use mathlib.Core.Bool.{Bool, true, false, cond}
-use mathlib.Core.List.{List, [], _∷_, _++_}
-use Prim.Native.Nat.{ℕ, zero, suc, _+_, _/_, _%_, _≤_}
+use mathlib.Core.List.{List, [], _∷_}
+use Prim.Native.Nat.{ℕ, _+_, _≤_}
 use native.Mathlib.Omega.{arith}
-use lib.Dec.{ltb}
 use lib.ListN.{length, length-append}
 use Rattle.text.specs.declared.Clash.{Clash}
-use Rattle.text.specs.Writing.{digitsOf, decimal, tabbed, printed}
+use Rattle.text.specs.Writing.{decimal, tabbed, printed}
 use Rattle.emit.specs.Buffer.{after, stored}
 use Rattle.emit.proofs.Buffer.{Puts}
+use Rattle.emit.proofs.Decimal.{decimal-most}
 use Rattle.printout.specs.Lines.{verdictWord, yesWord, noneWord, pairsWord, keptWord, roundsWord, stepsWord, endsWord, refusedWord, refusalText, clashText, figures}
-
-digits-short : (k n : ℕ) → length (digitsOf k n) ≤ k + 1
-unfolding digitsOf
-digits-short zero n = omega arith
-digits-short (suc k) n = elim (ltb n 10) as (λ b. length (cond b ((48 + n % 10) ∷ []) (digitsOf k (n / 10) ++ (48 + n % 10) ∷ [])) ≤ suc k + 1) [
-  | true ↦ omega arith
-  | false ↦ omega (arith, length-append (digitsOf k (n / 10)) ((48 + n % 10) ∷ []), digits-short k (n / 10))
-]
-
-decimal-short : (n : ℕ) → length (decimal n) ≤ 5
-unfolding decimal
-decimal-short n = digits-short 4 n
 
 -- A field, a tab and more fields; a line, its LF and more lines.
 tabbed-short : (f g : List ℕ) (fs : List (List ℕ)) (k n : ℕ) → length f ≤ k → length (tabbed (g ∷ fs)) ≤ n → length (tabbed (f ∷ g ∷ fs)) ≤ k + 1 + n
@@ -50,8 +38,8 @@ unfolding tabbed
 four-short f a b c k h =
     let row = f ∷ decimal a ∷ decimal b ∷ decimal c ∷ [] in
     let four = printed-short row [] (k + 1 + 17) 0 (tabbed-short f (decimal a) (decimal b ∷ decimal c ∷ []) k 17 h
-    (tabbed-short (decimal a) (decimal b) (decimal c ∷ []) 5 11 (decimal-short a)
-    (tabbed-short (decimal b) (decimal c) [] 5 5 (decimal-short b) (decimal-short c)))) none-short in
+    (tabbed-short (decimal a) (decimal b) (decimal c ∷ []) 5 11 (decimal-most a)
+    (tabbed-short (decimal b) (decimal c) [] 5 5 (decimal-most b) (decimal-most c)))) none-short in
     omega (arith, four)
 
 pub refusal-short : (file number line : ℕ) → length (refusalText file number line) ≤ 26
@@ -60,7 +48,7 @@ refusal-short file number line = four-short refusedWord file number line 7 (omeg
 
 pub clash-short : (c : Clash) → length (clashText c) ≤ 24
 unfolding clashText
-clash-short c = four-short (decimal (c .later .text)) (c .later .line) (c .first .text) (c .first .line) 5 (decimal-short (c .later .text))
+clash-short c = four-short (decimal (c .later .text)) (c .later .line) (c .first .text) (c .first .line) 5 (decimal-most (c .later .text))
 
 module _ (compatible : Bool) (pairs kept rounds steps ends : ℕ) where
   verdict-short : length (cond compatible yesWord noneWord) ≤ 4
@@ -69,9 +57,9 @@ module _ (compatible : Bool) (pairs kept rounds steps ends : ℕ) where
   pub figures-short : length (figures compatible pairs kept rounds steps ends) ≤ 72
   unfolding figures
   figures-short =
-      row-short verdictWord (cond compatible yesWord noneWord) _ 4 59 verdict-short (row-short pairsWord (decimal pairs) _ 5 47 (decimal-short pairs)
-      (row-short keptWord (decimal kept) _ 5 36 (decimal-short kept) (row-short roundsWord (decimal rounds) _ 5 23 (decimal-short rounds)
-      (row-short stepsWord (decimal steps) _ 5 11 (decimal-short steps) (row-short endsWord (decimal ends) [] 5 0 (decimal-short ends) none-short)))))
+      row-short verdictWord (cond compatible yesWord noneWord) _ 4 59 verdict-short (row-short pairsWord (decimal pairs) _ 5 47 (decimal-most pairs)
+      (row-short keptWord (decimal kept) _ 5 36 (decimal-most kept) (row-short roundsWord (decimal rounds) _ 5 23 (decimal-most rounds)
+      (row-short stepsWord (decimal steps) _ 5 11 (decimal-most steps) (row-short endsWord (decimal ends) [] 5 0 (decimal-most ends) none-short)))))
 
 -- ---- where a call ends
 

@@ -10,7 +10,7 @@ use lib.ListN.{length, getD, length-append}
 use lib.Bits.{bitOr}
 use borrow.Author.Tests.{not-true, not-false}
 use Rattle.theory.specs.declared.Automaton.{Automaton}
-use Rattle.theory.specs.Table.{member}
+use Rattle.theory.specs.Table.{declaredSet, member}
 use Rattle.theory.proofs.Sets.{member-or}
 use Rattle.theory.proofs.Filled.{any-default}
 use Rattle.theory.proofs.Tests.{or-cases}
@@ -41,7 +41,7 @@ place-held m p s a held d n here b f =
 
 -- ---- two texts
 
-pub declared-of : (a b : Automaton) (s d e : ℕ) (r : Bool) → d ≡ bitOr (a .inputs) (a .outputs) → e ≡ bitOr (b .inputs) (b .outputs)
+pub declared-of : (a b : Automaton) (s d e : ℕ) (r : Bool) → d ≡ declaredSet a → e ≡ declaredSet b
     → r ≡ member (bitOr d e) s → r ≡ (isDeclared a s || isDeclared b s)
 declared-of a b s d e r f g h =
     h ∙ member-or d e s ∙ rw (f, g, member-or (a .inputs) (a .outputs) s, member-or (b .inputs) (b .outputs) s)

@@ -7,7 +7,10 @@ use native.Mathlib.Omega.{arith}
 use native.Mathlib.Decide.{decLt}
 use lib.ListN.{length, take, drop, length-drop}
 use borrow.Author.Tests.{lt-ltb, le-ltb}
+use Rattle.theory.specs.declared.Automaton.{Automaton}
+use Rattle.theory.specs.Table.{header}
 use Rattle.text.specs.declared.Place.{Place}
+use Rattle.text.specs.declared.Place.the-variants.{Head}
 use Rattle.text.specs.declared.Spelling.{Spelling}
 use Rattle.text.specs.Fields.{upto, split}
 use Rattle.text.specs.Lines.{parse}
@@ -29,6 +32,10 @@ abbrev refusing : ℕ → ℕ → ℕ → State → Told
 refusing n text line st = record { refused = true; refusal = record { number = n; text = text; line = line }; state = st }
 
 -- Before the first line.
+-- The state before the first line, with the header that is made for it.
+pub fresh-of : (s : Signals) (h : Automaton) → h ≡ header 0 0 0 0 → _≡_ {A = State} (record { place = Head; header = h; signals = s }) (freshState s)
+fresh-of s h e = rw e
+
 pub fresh-sound : (s : Signals) (st : State) (cells : List ℕ) → st ≡ freshState s → Blank s cells → Sound st (length cells)
 fresh-sound s st cells e b = rw e (record { fit = b .fit; small = omega arith; wide = omega arith })
 

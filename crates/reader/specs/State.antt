@@ -6,6 +6,7 @@ use Prim.Native.Nat.{ℕ, _-_, _*_, _<_, _≤_}
 use lib.Dec.{leb}
 use lib.ListN.{length, take, drop, replicate}
 use Rattle.theory.specs.declared.Automaton.{Automaton}
+use Rattle.theory.specs.Table.{header}
 use Rattle.text.specs.declared.Place.{Place}
 use Rattle.text.specs.declared.Place.the-variants.{Head}
 use Rattle.text.specs.declared.Role.{Role}
@@ -115,7 +116,7 @@ pub record Enters (m p : List ℕ) (text : ℕ) (c : Spelling) (at end : ℕ) (s
 -- ---- a text, and two
 
 abbrev pub freshState : Signals → State
-freshState s = record { place = Head; header = record { states = 0; initial = 0; inputs = 0; outputs = 0 }; signals = s }
+freshState s = record { place = Head; header = header 0 0 0 0; signals = s }
 
 abbrev pub outcome : List ℕ → List ℕ → Told → List ℕ → Outcome
 outcome m p r cells = cond (r .refused) (ended (r .refusal)) (finished (reading m p (r .state) cells))

@@ -23,12 +23,7 @@ fn fresh(signals: Signals) -> State
 {
     State {
         place: Place::Head,
-        header: Automaton {
-            states: 0,
-            initial: 0,
-            inputs: 0,
-            outputs: 0,
-        },
+        header: table::header(0, 0, 0, 0),
         signals,
     }
 }

@@ -12,7 +12,7 @@ use Rattle.theory.specs.declared.Checked.the-variants.{Accepted}
 use Rattle.theory.specs.Table.{Table, cellAt}
 use Rattle.theory.specs.Checks.{first, declared, tableChecks}
 use Rattle.theory.specs.Valid.{Valid}
-use Rattle.theory.proofs.Tests.{or-right, and-both}
+use Rattle.theory.proofs.Tests.{is-false, or-right, and-both}
 use Rattle.theory.proofs.Bounded.{at-any}
 use Rattle.theory.proofs.Table.{table-narrow}
 use Rattle.theory.proofs.Checks.{passed-first, first-part, checks-valid}
@@ -27,7 +27,6 @@ use Rattle.text.specs.Lines.{table, declaration, step, tableWord, roleWord, ste
 use Rattle.text.specs.Writing.{decimal, roleOf, nameOf, tableRow, signalRow, stepRow, textLength, ambiguous, writerChecks}
 use Rattle.text.proofs.Decimal.{decimal-ok, decimal-value}
 use Rattle.text.proofs.Names.{match-self, match-sym}
-use Rattle.text.proofs.Entries.{is-false}
 use Rattle.roundtrip.proofs.Lines.{Field, name-field, number-field, Plain, plain-last, plain-cons}
 
 -- ---- what the writer takes

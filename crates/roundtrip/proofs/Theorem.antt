@@ -11,7 +11,7 @@ use Rattle.theory.specs.declared.Checked.the-variants.{Accepted}
 use Rattle.theory.specs.Table.{Table}
 use Rattle.theory.specs.Checks.{first, declared}
 use Rattle.theory.specs.Valid.{Valid}
-use Rattle.theory.proofs.Tests.{or-left, or-right}
+use Rattle.theory.proofs.Tests.{is-true, or-left, or-right}
 use Rattle.text.specs.declared.Spelling.{Spelling}
 use Rattle.text.specs.declared.Spelling.the-variants.{Exact}
 use Rattle.text.specs.Reading.{Reading, finished, readAlone, both, afterFirst, afterSecond, readBoth, tableRead}
@@ -20,7 +20,6 @@ use Rattle.text.specs.Lookup.{ample, nobody, declares, lookup, lookupNumber, lo
 use Rattle.text.proofs.Names.{same-eq}
 use Rattle.text.proofs.Ascending.{those-few}
 use Rattle.text.proofs.Written.{signals-ascending, written-text}
-use Rattle.text.proofs.Entries.{is-true}
 use Rattle.text.proofs.Accepted.{Sound, accepted, accepted-valid}
 use Rattle.roundtrip.specs.RoundTrip.{rank, rankOf, RoundTrip, namesOf, place, different, allNames, NoClashBetween, JointTrip}
 use Rattle.roundtrip.proofs.Names.{Told, told-map, place-name, different-begins, begins-place, number-within, different-distinct, rank-place, namesIn}

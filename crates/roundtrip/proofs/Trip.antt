@@ -8,7 +8,7 @@ use lib.Arith.{digits-lt}
 use lib.Dec.{T}
 use lib.ListN.{length, getD, replicate, length-replicate}
 use borrow.Author.Tests.{le-ltb}
-use Rattle.theory.specs.Table.{Table, table as tableOf}
+use Rattle.theory.specs.Table.{withLists, Table, table as tableOf}
 use Rattle.theory.specs.Checks.{declared}
 use Rattle.theory.proofs.Filled.{replicate-at}
 use Rattle.theory.proofs.Table.{table-narrow}
@@ -67,7 +67,7 @@ module _ (c : Spelling) (t : Table) (name : List ℕ) (names : List (List ℕ)) 
   begun : Reading
   begun = record {
     place = Declarations;
-    header = record { states = t .header .states; initial = t .header .initial; inputs = 0; outputs = 0 };
+    header = withLists (t .header) 0 0;
     signals = l;
     cells = replicate room 65535;
   }

@@ -7,14 +7,14 @@ use lib.ListN.{take, drop}
 use lib.Bits.{bitOr}
 use borrow.Author.Tests.{eq-eqb, ne-eqb}
 use Rattle.theory.specs.declared.Automaton.{Automaton}
-use Rattle.theory.specs.Table.{member}
+use Rattle.theory.specs.Table.{declaredSet, member}
 use Rattle.theory.proofs.Sets.{member-or}
 use Rattle.scan.specs.Places.{placeIn}
 use Rattle.signals.specs.declared.Name.{Name}
 use Rattle.text.specs.Reading.{textOf}
 use Rattle.signals.specs.Names.{isDeclared, nameAt}
 
-pub declared-either : (h : Automaton) (a d : ℕ) (r : Bool) → d ≡ bitOr (h .inputs) (h .outputs) → r ≡ member d a → r ≡ isDeclared h a
+pub declared-either : (h : Automaton) (a d : ℕ) (r : Bool) → d ≡ declaredSet h → r ≡ member d a → r ≡ isDeclared h a
 declared-either h a d r e f = f ∙ rw e (member-or (h .inputs) (h .outputs) a)
 
 -- Bytes or places of two texts.

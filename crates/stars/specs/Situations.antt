@@ -6,7 +6,7 @@ use Prim.Native.Nat.{ℕ, zero, suc, _+_, _*_, _/_, _%_, _^_}
 use lib.Dec.{eqb}
 use Rattle.theory.specs.declared.Refusal.{Refusal}
 use Rattle.theory.specs.Bounded.{tabulate}
-use Rattle.theory.specs.Table.{Table, table, Composition, automaton, composition, synthesis, controller, refinement, keptCount, stepCount, endCount}
+use Rattle.theory.specs.Table.{header, Table, table, Composition, automaton, composition, synthesis, controller, refinement, keptCount, stepCount, endCount}
 use Rattle.theory.specs.Checks.{first, unlessRefused, compatibilityChecks, compositionChecks, synthesisChecks, refinementChecks}
 
 -- ---- tables written out
@@ -28,7 +28,7 @@ actionSet (a ∷ l) = 2 ^ a + actionSet l
 -- So many states, the first state 0, inputs, outputs, steps.
 abbrev pub written : ℕ → List ℕ → List ℕ → List Step → Table
 written n inputs outputs l =
-    table (record { states = n; initial = 0; inputs = actionSet inputs; outputs = actionSet outputs })
+    table (header n 0 (actionSet inputs) (actionSet outputs))
     (tabulate (λ k. target l (k / 32) (k % 32)) 0 (n * 32))
 
 -- The steps of a table, in the order of its cells: so many cells from k on.

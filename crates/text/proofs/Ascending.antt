@@ -8,8 +8,8 @@ use native.Mathlib.Omega.{arith}
 use native.Mathlib.Decide.{ℕ-discrete}
 use lib.Dec.{T}
 use lib.ListN.{length}
+use Rattle.theory.proofs.Tests.{is-false, is-true}
 use Rattle.text.specs.Writing.{those}
-use Rattle.text.proofs.Entries.{is-true, is-false}
 
 -- The number a stands in the list.
 abbrev pub In : ℕ → List ℕ → Type 0

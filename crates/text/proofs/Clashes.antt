@@ -10,7 +10,7 @@ use lib.Dec.{T, eqb, ltb, ltb→lt, lt→ltb}
 use lib.ListN.{length, getD, take, drop, take-append-drop, length-append, List·getD-append}
 use lib.Seq.{drop-drop, getD-append-seam}
 use borrow.Author.Tests.{lt-ltb, le-ltb}
-use Rattle.theory.proofs.Tests.{and-left}
+use Rattle.theory.proofs.Tests.{is-true, and-left}
 use Rattle.text.specs.declared.Spelling.{Spelling}
 use Rattle.text.specs.declared.Spelling.the-variants.{Exact, Folded}
 use Rattle.text.specs.declared.Clash.{Clash}
@@ -20,7 +20,6 @@ use Rattle.text.specs.Lookup.{nobody}
 use Rattle.text.specs.Clashes.{firstAlike, clashing, Unlike, lineOf, declaredAt, clashAt, clashesOf}
 use Rattle.text.proofs.Split.{split-some}
 use Rattle.text.proofs.Names.{match-self, same-eq, index-le, index-append, index-grows, match-below, match-at, match-above}
-use Rattle.text.proofs.Entries.{is-true}
 use Rattle.text.proofs.Ascending.{In, in-those, those-in, those-none, those-first}
 
 -- ---- a name among signals

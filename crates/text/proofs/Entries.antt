@@ -1,14 +1,15 @@
 -- What an entry does to a reading, refusal by refusal (01: 1, 2, 10; 18, 21; 19, 20; 02, S-9: 28), the first that applies.
-use mathlib.Core.Path.{_≡_, refl, sym, _∙_}
+use mathlib.Core.Path.{_≡_, sym, _∙_}
 use mathlib.Core.Logic.{inl, inr}
-use mathlib.Core.Bool.{Bool, true, false, not, _||_, or-true}
+use mathlib.Core.Bool.{not, _||_, or-true}
 use Prim.Native.Nat.{ℕ, _+_, _*_, _≤_, _<_}
 use native.Mathlib.Omega.{arith}
 use native.Mathlib.Decide.{decLt, ℕ-discrete}
 use lib.Dec.{T, leb, T-not}
 use lib.ListN.{length, getD, set}
 use borrow.Author.Tests.{eq-eqb, ne-eqb, lt-ltb, le-ltb, le-leb, lt-leb}
-use Rattle.theory.proofs.Tests.{test}
+use Rattle.theory.proofs.Tests.{is-false, is-true, test}
+use Rattle.theory.specs.Table.{header}
 use Rattle.text.specs.declared.Place.the-variants.{Declarations, Steps}
 use Rattle.text.specs.declared.Role.{Role}
 use Rattle.text.specs.declared.Spelling.{Spelling}
@@ -20,14 +21,6 @@ never e = let z : _≡_ {A = ℕ} 0 1 = cc in omega arith
 
 next-same : (a b : Reading) → next a ≡ next b → a ≡ b
 next-same a b e = cc
-
-pub is-true : (b : Bool) → T b → b ≡ true
-is-true true t = refl
-is-true false t = absurd t
-
-pub is-false : (b : Bool) → ¬ T b → b ≡ false
-is-false true n = absurd (n tt)
-is-false false n = refl
 
 -- ---- the `table` line, of n states with the first state i
 
@@ -52,7 +45,7 @@ module _ (st : Reading) (n i : ℕ) where
 
       pub started-next : n * 32 ≤ length (st .cells)
           → started st n i
-          ≡ next (record { place = Declarations; header = record { states = n; initial = i; inputs = 0; outputs = 0 }; signals = st .signals; cells = st .cells })
+          ≡ next (record { place = Declarations; header = header n i 0 0; signals = st .signals; cells = st .cells })
       unfolding started
       started-next h = simp (ne-eqb n 0 (λ e. omega arith), le-ltb 4096 n few, lt-leb n i initial, le-ltb (length (st .cells)) (n * 32) h)
 
@@ -122,7 +115,7 @@ pub record Started (st : Reading) (n i : ℕ) (st′ : Reading) : Type 0 where
   pub few : n ≤ 4096
   pub initial : i < n
   pub room : n * 32 ≤ length (st .cells)
-  pub gives : record { place = Declarations; header = record { states = n; initial = i; inputs = 0; outputs = 0 }; signals = st .signals; cells = st .cells } ≡ st′
+  pub gives : record { place = Declarations; header = header n i 0 0; signals = st .signals; cells = st .cells } ≡ st′
 
 pub started-of : (st : Reading) (n i : ℕ) (st′ : Reading) → started st n i ≡ next st′ → Started st n i st′
 started-of st n i st′ e =

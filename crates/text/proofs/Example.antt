@@ -7,7 +7,7 @@ use Prim.Native.Char.{code}
 use Prim.Native.Nat.{ℕ, _+_, _*_}
 use Prim.Native.String.{String, [] as []ˢ, _∷_ as _∷ˢ_}
 use lib.ListN.{getD, replicate, set}
-use Rattle.theory.specs.Table.{Table, table}
+use Rattle.theory.specs.Table.{header, Table, table}
 use Rattle.text.specs.Writing.{digitsOf, decimal, tabbed, printed, those, signals, tableRow, signalRow, stepRow, stepRows, enabledSignals, wholeText}
 
 -- The bytes of an ASCII text.
@@ -22,7 +22,7 @@ step from signal to cells = set cells (from * 32 + signal) to
 -- Signals 0, 1 and 4 are outputs, 2 and 3 inputs.
 abbrev example : Table
 example =
-    table (record { states = 4; initial = 0; inputs = 12; outputs = 19 })
+    table (header 4 0 12 19)
     (step 0 0 0 (step 0 1 3 (step 0 3 0 (step 0 4 0 (step 1 3 1 (step 1 4 1 (step 3 2 0 (step 3 3 3 (step 3 4 3 (replicate 128 65535))))))))))
 
 abbrev exampleNames : List (List ℕ)

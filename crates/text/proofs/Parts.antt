@@ -8,7 +8,7 @@ use native.Mathlib.Decide.{decLt}
 use lib.Dec.{T, ltb}
 use lib.ListN.{length, getD, take, drop, take-append-drop, length-append, List·getD-append}
 use lib.Seq.{getD-append-seam, drop-drop, drop-append-le, take-append-seam, length-take-le}
-use Rattle.theory.proofs.Tests.{or-left, or-right}
+use Rattle.theory.proofs.Tests.{is-true, or-left, or-right}
 use Rattle.text.specs.declared.Place.{Place}
 use Rattle.text.specs.declared.Place.the-variants.{Head}
 use Rattle.text.specs.declared.Role.{Role}
@@ -19,7 +19,7 @@ use Rattle.text.specs.Reading.{Signal, Reading, next, indexOf, known, en
 use Rattle.text.specs.Lookup.{ample, nobody, declares, lookup, lookupAlone}
 use Rattle.text.proofs.Split.{split-more, split-one}
 use Rattle.text.proofs.Lines.{From, of-table, of-declaration, of-step, of-refusal, from-line}
-use Rattle.text.proofs.Entries.{is-true, started-of, declaring-of, stepping-of}
+use Rattle.text.proofs.Entries.{started-of, declaring-of, stepping-of}
 use Rattle.text.proofs.Accepted.{finished-same, onward-finished, unless-nil, opened, accepted, read-both}
 
 -- The name of a declaration stands behind the role's word and a tab.

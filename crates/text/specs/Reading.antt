@@ -7,7 +7,7 @@ use lib.Bits.{bitOr}
 use lib.Dec.{eqb, ltb, leb}
 use lib.ListN.{length, getD, set, replicate, take}
 use Rattle.theory.specs.declared.Automaton.{Automaton}
-use Rattle.theory.specs.Table.{Table, table as tableOf}
+use Rattle.theory.specs.Table.{header, withLists, Table, table as tableOf}
 use Rattle.theory.specs.Checks.{declared}
 use Rattle.text.specs.declared.Place.{Place}
 use Rattle.text.specs.declared.Place.the-variants.{Head, Declarations, Steps}
@@ -63,7 +63,7 @@ started st states initial =
     (cond (ltb (length (st .cells)) (states * 32)) (stop 10)
     (next (record {
       place = Declarations;
-      header = record { states = states; initial = initial; inputs = 0; outputs = 0 };
+      header = header states initial 0 0;
       signals = st .signals;
       cells = st .cells;
     }))))
@@ -71,8 +71,8 @@ started st states initial =
 -- ---- a declaration: 18, 28, 21
 
 abbrev pub withRole : Role → ℕ → Automaton → Automaton
-withRole Input a h = record { states = h .states; initial = h .initial; inputs = bitOr (h .inputs) (2 ^ a); outputs = h .outputs }
-withRole Output a h = record { states = h .states; initial = h .initial; inputs = h .inputs; outputs = bitOr (h .outputs) (2 ^ a) }
+withRole Input a h = withLists h (bitOr (h .inputs) (2 ^ a)) (h .outputs)
+withRole Output a h = withLists h (h .inputs) (bitOr (h .outputs) (2 ^ a))
 
 -- The signals with this one, if its name is new.
 abbrev pub known : List Signal → Signal → ℕ → List Signal
@@ -134,7 +134,7 @@ readLines c text k at st (l ∷ m ∷ ls) =
 abbrev pub fresh : List Signal → ℕ → Reading
 fresh l room = record {
   place = Head;
-  header = record { states = 0; initial = 0; inputs = 0; outputs = 0 };
+  header = header 0 0 0 0;
   signals = l;
   cells = replicate room 65535;
 }

@@ -4,12 +4,11 @@ use mathlib.Core.Bool.{Bool}
 use mathlib.Core.List.{List, [], _++_}
 use Prim.Native.Nat.{ℕ, _+_, _-_, _*_, _^_, _≤_, _<_}
 use native.Mathlib.Omega.{arith}
-use lib.Bits.{bitOr}
 use lib.Count.{trailingZeros}
 use lib.ListN.{length, getD, length-append}
 use borrow.Author.Tests.{lt-ltb, le-ltb}
 use Rattle.theory.specs.declared.Automaton.{Automaton}
-use Rattle.theory.specs.Table.{table, member}
+use Rattle.theory.specs.Table.{declaredSet, table, member}
 use Rattle.text.specs.Writing.{decimal, nameOf, textLength}
 use Rattle.emit.specs.Rows.{tableText, signalText}
 use Rattle.emit.proofs.Decimal.{decimal-most}
@@ -62,12 +61,12 @@ module _ (n from cell : ℕ) (name : List ℕ) where
 -- ---- the text
 
 pub text-long : (a : Automaton) (cells : List ℕ) (name : List ℕ) (names : List (List ℕ)) (x y : ℕ) → x ≡ length (decimal (a .states)) → y ≡ length (decimal (a .initial))
-    → (set : ℕ) → set ≡ bitOr (a .inputs) (a .outputs) → (j k : ℕ) → j ≡ length (signalLines set (a .inputs) names) → k ≡ length (stepLines (a .states) cells names)
+    → (set : ℕ) → set ≡ declaredSet a → (j k : ℕ) → j ≡ length (signalLines set (a .inputs) names) → k ≡ length (stepLines (a .states) cells names)
     → length name + x + y + 9 + j + k ≡ textLength (table a cells) name names
 unfolding textLength
 text-long a cells name names x y e f set g j k p q =
     let title = tableText name (a .states) (a .initial) in
-    let lines = signalLines (bitOr (a .inputs) (a .outputs)) (a .inputs) names in
+    let lines = signalLines (declaredSet a) (a .inputs) names in
     let steps = stepLines (a .states) cells names in
     let j′ : j ≡ length lines = rw g at p in
     omega (arith, e, f, q, table-long name (a .states) (a .initial), ap length (text-parts a cells names name), length-append (title ++ lines) steps, length-append title lines)

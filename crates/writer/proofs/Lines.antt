@@ -8,21 +8,20 @@ use native.Mathlib.Decide.{decLt}
 use native.Mathlib.Numerals.{add-one}
 use native.Mathlib.Omega.{arith}
 use denote.Ref.{RefT, now}
-use lib.Bits.{bitOr}
 use lib.Count.{trailingZeros}
 use lib.Dec.{T, ltb}
 use lib.ListN.{length, getD}
 use borrow.Author.Tests.{lt-ltb, le-ltb}
+use Rattle.theory.proofs.Tests.{is-true}
 use Rattle.theory.specs.declared.Automaton.{Automaton}
 use Rattle.theory.specs.Closure.{isSome}
 use Rattle.theory.specs.Sets.{has}
-use Rattle.theory.specs.Table.{Table, table, member, cellAt}
+use Rattle.theory.specs.Table.{declaredSet, Table, table, member, cellAt}
 use Rattle.theory.specs.Checks.{declared}
 use Rattle.theory.specs.Valid.{Valid}
 use Rattle.theory.proofs.Filled.{any-default}
 use Rattle.sets.proofs.Visit.{low}
 use Rattle.text.specs.Writing.{printed, those, signals, nameOf, tableRow, signalRow, stepRow, stepRows, wholeText, hasStep, enabledSignals}
-use Rattle.text.proofs.Entries.{is-true}
 use Rattle.text.proofs.Written.{printed-append}
 use Rattle.emit.specs.Rows.{tableText, signalText, stepText}
 use Rattle.emit.proofs.Buffer.{Puts, puts-none, puts-then}
@@ -146,7 +145,7 @@ module _ (n : ℕ) (cells : List ℕ) (names : List (List ℕ)) where
 
 module _ (a : Automaton) (cells : List ℕ) (names : List (List ℕ)) where
   abbrev acts : ℕ
-  acts = bitOr (a .inputs) (a .outputs)
+  acts = declaredSet a
 
   pub text-known : Valid (table a cells) → Known (a .states) cells acts
   text-known v s x h k c =

@@ -4,7 +4,6 @@ use mathlib.Core.Bool.{true, false, _||_, or-true}
 use mathlib.Core.List.{List, _++_, append-assoc}
 use Prim.Native.Nat.{ℕ, _≤_, _<_}
 use native.Mathlib.Omega.{arith}
-use lib.Bits.{bitOr}
 use lib.Dec.{ltb}
 use lib.ListN.{length}
 use borrow.Author.Tests.{lt-ltb, le-ltb}
@@ -12,7 +11,7 @@ use Rattle.theory.specs.declared.Location.the-variants.{Nowhere}
 use Rattle.theory.specs.declared.Refusal.{Refusal}
 use Rattle.theory.specs.declared.Checked.{Checked}
 use Rattle.theory.specs.declared.Checked.the-variants.{Accepted, Refused}
-use Rattle.theory.specs.Table.{Table, table}
+use Rattle.theory.specs.Table.{declaredSet, Table, table}
 use Rattle.theory.specs.Checks.{first, unlessRefused, tableChecks}
 use Rattle.theory.specs.Valid.{Valid}
 use Rattle.theory.proofs.Checks.{first-refused, first-accepted, first-part, checks-valid}
@@ -102,7 +101,7 @@ module _ (t : Table) (name : List ℕ) (names : List (List ℕ)) where
       unfolding checksBefore
       write-valid = checks-valid 1 t .0 (first-part (tableChecks 1 t) (nameChecks (t .header) name names) (sym checked ∙ yes) .0)
 
-      pub write-named : Named (bitOr (t .header .inputs) (t .header .outputs)) names
+      pub write-named : Named (declaredSet (t .header)) names
       unfolding checksBefore
       write-named = passed-named (t .header) name names (first-part (tableChecks 1 t) (nameChecks (t .header) name names) (sym checked ∙ yes) .1)
 

@@ -6,14 +6,14 @@ use Prim.Native.Nat.{ℕ, _+_, _*_, _≤_, _<_}
 use lib.Dec.{T, ltb}
 use lib.ListN.{length, getD}
 use Rattle.theory.specs.Sets.{has}
-use Rattle.theory.specs.Table.{Table, table}
+use Rattle.theory.specs.Table.{header, Table, table}
 use Rattle.text.specs.Writing.{printed, those, signalRow, stepRow, stepRows, hasStep}
 use Rattle.emit.specs.Rows.{stepText}
 
 -- The declarations of the signals of a set, by ascending number; those of `inputs` are inputs.
 unfoldable pub signalLines : ℕ → ℕ → List (List ℕ) → List ℕ
 signalLines set inputs names =
-    printed (map (signalRow (table (record { states = 0; initial = 0; inputs = inputs; outputs = 0 }) []) names) (those (has set) 0 32))
+    printed (map (signalRow (table (header 0 0 inputs 0) []) names) (those (has set) 0 32))
 
 -- A cell of n states at the state s; nothing if it holds no step.
 abbrev pub cellText : ℕ → ℕ → List ℕ → ℕ → List ℕ
@@ -21,7 +21,7 @@ cellText n s name cell = cond (ltb cell n) (stepText s name cell) []
 
 -- What the lines of steps depend on: the number of states, and the cells.
 abbrev pub steps : ℕ → List ℕ → Table
-steps n cells = table (record { states = n; initial = 0; inputs = 0; outputs = 0 }) cells
+steps n cells = table (header n 0 0 0) cells
 
 -- The steps of the state s by the signals of a set, by ascending number.
 abbrev pub stateLines : ℕ → List ℕ → List (List ℕ) → ℕ → ℕ → List ℕ

@@ -4,7 +4,7 @@ ghost use mathlib.Core.Path.{_≡_};
 ghost use Prim.Native.Nat.{_*_, _^_, _≤_, _<_};
 ghost use lib.Bits.{bitOr};
 ghost use lib.ListN.{length};
-ghost use Rattle.theory.specs.Table.{table};
+ghost use Rattle.theory.specs.Table.{declaredSet, table};
 ghost use Rattle.theory.specs.Valid.{Valid};
 ghost use Rattle.text.specs.Writing.{textLength};
 ghost use Rattle.emit.specs.Rows.{signalText};
@@ -72,8 +72,8 @@ fn state_lines(states: usize, cells: &[u16], state: usize, signals: u32, names: 
 // All steps.
 fn step_lines(a: Automaton, cells: &[u16], names: &[&[u8]]) -> usize
     requires { ⌜ Writable (a .states) (now cells) (texts (now names)) ⌝ }
-    requires { ⌜ Named (bitOr (a .inputs) (a .outputs)) (texts (now names)) ⌝ }
-    requires { ⌜ Known (a .states) (now cells) (bitOr (a .inputs) (a .outputs)) ⌝ }
+    requires { ⌜ Named (declaredSet a) (texts (now names)) ⌝ }
+    requires { ⌜ Known (a .states) (now cells) (declaredSet a) ⌝ }
     ensures { λ r. ⌜ (r ≡ length (stepLines (a .states) (now (cells .entry)) (texts (now (names .entry))))) × (r ≤ a .states * (34 * 2 ^ 32)) ⌝ }
 {
     let signals = table::declared(a);
@@ -87,7 +87,7 @@ fn step_lines(a: Automaton, cells: &[u16], names: &[&[u8]]) -> usize
 // Returns the length of the whole text.
 pub fn text(a: Automaton, cells: &[u16], name: &[u8], names: &[&[u8]]) -> usize
     requires { ⌜ Valid (table a (now cells)) ⌝ }
-    requires { ⌜ Named (bitOr (a .inputs) (a .outputs)) (texts (now names)) ⌝ }
+    requires { ⌜ Named (declaredSet a) (texts (now names)) ⌝ }
     requires { ⌜ length (now name) ≤ 16 ⌝ }
     ensures { λ r. ⌜ r ≡ textLength (table a (now (cells .entry))) (now (name .entry)) (texts (now (names .entry))) ⌝ }
 {

@@ -3,7 +3,7 @@ ghost use mathlib.Core.Path.{_≡_};
 ghost use Prim.Native.Nat.{_≤_};
 ghost use lib.Bits.{bitOr};
 ghost use lib.ListN.{length};
-ghost use Rattle.theory.specs.Table.{table};
+ghost use Rattle.theory.specs.Table.{declaredSet, table};
 ghost use Rattle.theory.specs.Valid.{Valid};
 ghost use Rattle.theory.specs.Checks.{first};
 ghost use Rattle.text.specs.Writing.{writerBytes};
@@ -36,7 +36,7 @@ fn check(a: Automaton, cells: &[u16], name: &[u8], names: &[&[u8]]) -> Checked
 // Check 23 and the text.
 fn print(out: &mut [u8], a: Automaton, cells: &[u16], name: &[u8], names: &[&[u8]]) -> Printed
     requires { ⌜ Valid (table a (now cells)) ⌝ }
-    requires { ⌜ Named (bitOr (a .inputs) (a .outputs)) (texts (now names)) ⌝ }
+    requires { ⌜ Named (declaredSet a) (texts (now names)) ⌝ }
     requires { ⌜ length (now name) ≤ 16 ⌝ }
     ensures { λ r. ⌜ r ≡ printReply (table a (now (cells .entry))) (now (name .entry)) (texts (now (names .entry))) (length (now (out .entry))) ⌝ }
     ensures { λ r. ⌜ now (out .exit) ≡ printBytes (table a (now (cells .entry))) (now (name .entry)) (texts (now (names .entry))) (now (out .entry)) ⌝ }

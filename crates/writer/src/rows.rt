@@ -3,7 +3,7 @@ ghost use mathlib.Core.Path.{_≡_};
 ghost use Prim.Native.Nat.{_<_};
 ghost use lib.Bits.{bitOr};
 ghost use lib.ListN.{length};
-ghost use Rattle.theory.specs.Table.{table};
+ghost use Rattle.theory.specs.Table.{declaredSet, table};
 ghost use Rattle.theory.specs.Valid.{Valid};
 ghost use Rattle.text.specs.Writing.{wholeText, nameOf};
 ghost use Rattle.emit.specs.Buffer.{after, stored};
@@ -78,7 +78,7 @@ fn state_lines(
 // The steps, by state of departure and then by signal.
 fn step_lines(d: &mut [u8], at: usize, a: Automaton, cells: &[u16], names: &[&[u8]]) -> usize
     requires { ⌜ Writable (a .states) (now cells) (texts (now names)) ⌝ }
-    requires { ⌜ Known (a .states) (now cells) (bitOr (a .inputs) (a .outputs)) ⌝ }
+    requires { ⌜ Known (a .states) (now cells) (declaredSet a) ⌝ }
     ensures { λ r. ⌜ r ≡ after (length (now (d .entry))) at (stepLines (a .states) (now (cells .entry)) (texts (now (names .entry)))) ⌝ }
     ensures { λ r. ⌜ now (d .exit) ≡ stored (now (d .entry)) at (stepLines (a .states) (now (cells .entry)) (texts (now (names .entry)))) ⌝ }
 {
@@ -93,7 +93,7 @@ fn step_lines(d: &mut [u8], at: usize, a: Automaton, cells: &[u16], names: &[&[u
 // Writes the whole text from the first byte of the buffer on; returns the place after it.
 pub fn text(d: &mut [u8], a: Automaton, cells: &[u16], name: &[u8], names: &[&[u8]]) -> usize
     requires { ⌜ Valid (table a (now cells)) ⌝ }
-    requires { ⌜ Named (bitOr (a .inputs) (a .outputs)) (texts (now names)) ⌝ }
+    requires { ⌜ Named (declaredSet a) (texts (now names)) ⌝ }
     ensures { λ r. ⌜ r ≡ after (length (now (d .entry))) 0 (wholeText (table a (now (cells .entry))) (now (name .entry)) (texts (now (names .entry)))) ⌝ }
     ensures { λ r. ⌜ now (d .exit) ≡ stored (now (d .entry)) 0 (wholeText (table a (now (cells .entry))) (now (name .entry)) (texts (now (names .entry)))) ⌝ }
 {

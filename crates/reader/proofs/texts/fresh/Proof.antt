@@ -1,0 +1,13 @@
+use Rattle.reader.proofs.Whole.{fresh-of}
+use borrow.Author.Needs.{needs}
+use Rattle.reader.proofs.texts.fresh.Statement.{statement}
+use Rattle.reader.proofs.texts.fresh.Tie as tie
+
+header-requires : tie.Need-header-requires
+header-requires c κs = search needs
+
+returns : tie.Need-returns
+returns c = search (fresh-of, needs)
+
+pub fresh-spec : {M : Type 1} → statement M
+fresh-spec = tie.close (tie.spec header-requires returns)
