@@ -11,11 +11,11 @@ use Rattle.theory.specs.Closure.{ranked}
 use Rattle.theory.specs.Closure as closures
 use Rattle.theory.specs.Numbered.{pair, incompatibility}
 use Rattle.theory.specs.Table.{Table, table, automaton, composition}
-use Rattle.search.specs.Kernel.{encoded}
+use Rattle.search.specs.Ranks.{encoded}
 use Rattle.search.specs.declared.Question.{Question}
 use Rattle.search.specs.Search.{pairCount, pairRanks, rankedPairs, pairRounds, flagged}
 use Rattle.search.specs.Ready.{Ready}
-use Rattle.search.proofs.Answers.{ranked-all, rounds-all, flags-are, verdict-is, start-below}
+use Rattle.search.proofs.Meaning.{ranked-all, rounds-all, flags-are, verdict-is, start-below}
 use Rattle.compatibility.specs.declared.Compatibility.the-variants as compatibility
 use Rattle.compatibility.specs.Replies.{compatibilityQuestion, decidedOf}
 use Rattle.compatibility.proofs.Laws.{ranks-are}

@@ -10,7 +10,7 @@ use Rattle.theory.specs.Table.{Table, composition, productHeader}
 use Rattle.search.specs.declared.Question.{Question}
 use Rattle.search.specs.Search.{rankedPairs, pairRounds, flagged}
 use Rattle.search.specs.Ready.{Ready}
-use Rattle.search.proofs.Answers.{start-below}
+use Rattle.search.proofs.Meaning.{start-below}
 use Rattle.product.specs.Kept.{keptFilled}
 use Rattle.compatibility.specs.Replies.{compatibilityQuestion}
 use Rattle.compatibility.proofs.Answers.{decide-verdict, decide-rounds, decide-ranks}
