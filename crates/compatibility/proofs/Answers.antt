@@ -13,10 +13,10 @@ use Rattle.theory.specs.Numbered.{pair, incompatibility}
 use Rattle.theory.specs.Table.{Table, table, automaton, composition, pairCount}
 use Rattle.table.specs.Ready.{Ready}
 use Rattle.table.proofs.ReadySizes.{start-below}
-use Rattle.search.specs.Kernel.{encoded}
+use Rattle.search.specs.Ranks.{encoded}
 use Rattle.search.specs.declared.Question.{Question}
 use Rattle.search.specs.Search.{pairRanks, rankedPairs, pairRounds, flagged}
-use Rattle.search.proofs.Answers.{ranked-all, rounds-all, flags-are, verdict-is}
+use Rattle.search.proofs.Meaning.{ranked-all, rounds-all, flags-are, verdict-is}
 use Rattle.compatibility.specs.declared.Compatibility.the-variants as compatibility
 use Rattle.compatibility.specs.Replies.{compatibilityQuestion, decidedOf}
 use Rattle.compatibility.proofs.Laws.{ranks-are}
