@@ -2,7 +2,7 @@
 -- loop over a set of 32 digits knows at its head, whatever it does with the members.
 use mathlib.Core.Path.{_≡_, refl, sym, subst, ap, _∙_}
 use mathlib.Core.Logic.{_⊎_, inl, inr}
-use mathlib.Core.Bool.{Bool, true, false, not, _&&_, _||_, and-true}
+use mathlib.Core.Bool.{Bool, true, false, not, _&&_, _||_, and-true, or-false}
 use Prim.Native.Nat.{ℕ, zero, suc, _-_, _/_, _%_, _^_, _≤_, _<_}
 use native.Mathlib.Nat.{pow-suc}
 use native.Mathlib.Omega.{arith}
@@ -10,6 +10,7 @@ use lib.Bits.{and-self, and-zero-r, xor-self, xor-zero-r}
 use lib.Count.{trailingZeros, under}
 use lib.Dec.{T, eqb, eqb→eq, eqb-refl, T-not, eqb·suc-suc, eqb·suc-zero}
 use lib.Pow.{pow-pos}
+use borrow.Author.Tests.{ne-eqb}
 use Rattle.theory.specs.Sets.{has, difference}
 use Rattle.theory.proofs.Lowest.{Lowest}
 use Rattle.theory.proofs.Sets.{has-suc, has-difference}
@@ -94,6 +95,9 @@ module _ {set visited a visited′ left′ : ℕ} (t : Turn set visited a visite
 
   pub turn-keeps : (b : ℕ) → T (has visited b) → T (has visited′ b)
   turn-keeps b h = subst T (sym (t .grown b)) (or-left (has visited b) (eqb b a) h)
+
+  pub turn-other : (b : ℕ) → ¬ (b ≡ a) → has visited′ b ≡ has visited b
+  turn-other b ne = t .grown b ∙ ap (λ x. has visited b || x) (ne-eqb b a ne) ∙ or-false (has visited b)
 
   pub turn-cases : (b : ℕ) → T (has visited′ b) → T (has visited b) ⊎ (b ≡ a)
   turn-cases b h = elim (or-cases (has visited b) (eqb b a) (subst T (t .grown b) h)) [ inl v ↦ inl v | inr e ↦ inr (eqb→eq b a e) ]
