@@ -1,20 +1,20 @@
 -- The questions about names, as loops over a set answer them.
 use mathlib.Core.Path.{_≡_, refl, sym, ap, subst, _∙_}
 use mathlib.Core.Logic.{inl, inr}
-use mathlib.Core.Bool.{Bool, true, false, not, _&&_, _||_}
+use mathlib.Core.Bool.{Bool, true, false, not, _&&_}
 use mathlib.Core.List.{List, [], _∷_}
 use Prim.Native.Nat.{ℕ, zero, suc, _-_, _^_, _≤_, _<_}
 use native.Mathlib.Omega.{arith}
-use native.Mathlib.Decide.{decLt, ℕ-discrete}
+use native.Mathlib.Decide.{decLt}
 use denote.Ref.{RefT, now}
 use lib.Count.{trailingZeros}
-use lib.Dec.{T, leb}
+use lib.Dec.{T, eqb, leb}
 use lib.ListN.{length, getD, length-map, List·getD-eq-default}
 use borrow.Author.Tests.{leb-true, not-false}
 use Rattle.theory.specs.Bounded.{any}
 use Rattle.theory.specs.Sets.{has}
 use Rattle.theory.proofs.Bounded.{any-at, at-any}
-use Rattle.theory.proofs.Tests.{or-cases, or-left, or-right, and-left, and-right, and-both, same-test}
+use Rattle.theory.proofs.Tests.{and-left, and-right, and-both}
 use Rattle.theory.proofs.Sets.{has-lt}
 use Rattle.sets.proofs.Members.{has-none}
 use Rattle.sets.proofs.Visit.{low, Turn, turn-cases, turn-above}
@@ -25,7 +25,6 @@ use Rattle.text.specs.Writing.{nameOf}
 use Rattle.text.proofs.Names.{same-match}
 use Rattle.text.proofs.Entries.{is-true, is-false}
 use Rattle.names.specs.Names.{texts, anyOf, repeated, Named}
-use Rattle.names.proofs.Visit.{of-rest}
 
 -- ---- the lent names
 
@@ -78,11 +77,10 @@ module _ (names : List (List ℕ)) (left : ℕ) (bound : left < 2 ^ 32) (some : 
   pub short-lowest : length (nameOf names (trailingZeros 32 left)) ≤ 16
   short-lowest = let k = low 32 left (omega arith) bound in n .short _ (k .lowest .below) (k .lowest .passes)
 
-  in-rest : (a : ℕ) → T (has (left - 2 ^ trailingZeros 32 left) a) → T (has left a)
-  in-rest a h = of-rest 32 left (omega arith) bound a h .0
-
   pub named-rest : Named (left - 2 ^ trailingZeros 32 left) names
-  named-rest = record { entry = λ a k h. n .entry a k (in-rest a h); short = λ a k h. n .short a k (in-rest a h) }
+  named-rest =
+      let k = low 32 left (omega arith) bound in
+      named-part names left (left - 2 ^ trailingZeros 32 left) (λ a h. and-left (has left a) (not (eqb a (trailingZeros 32 left))) (subst T (k .rest a) h)) n
 
 -- ---- a question about the members of a set: none of those visited passes, until one does or all are visited
 
