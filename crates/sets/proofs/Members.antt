@@ -1,6 +1,6 @@
 -- Members of the empty set, of a power of two and of a set that gets one more; their number, and a bound on them; for any width.
 use mathlib.Core.Path.{_≡_, refl, sym, ap, ap₂, _∙_}
-use mathlib.Core.Bool.{Bool, true, false, not, _&&_, _||_, Bool·not-not}
+use mathlib.Core.Bool.{Bool, true, false, not, _&&_, _||_, Bool·not-not, and-self as and-same}
 use Prim.Native.Nat.{ℕ, zero, suc, _+_, _-_, _/_, _%_, _^_, _<_}
 use native.Mathlib.Nat.{div-one, div-eq-of-lt, pow-suc, zero-div}
 use native.Mathlib.Decide.{decLt}
@@ -38,10 +38,6 @@ has-insert set s a = has-or set (2 ^ s) a ∙ ap (λ b. has set a || b) (has-pow
 pub empty-set : (w s : ℕ) → s < 2 ^ w → eqb s 0 ≡ not (any w (has s))
 empty-set w s h =
     sym (ap not (any-cong w _ _ (λ a l. sym (and-same (has s a))) ∙ overlap w s s h ∙ ap (λ x. not (eqb x 0)) (and-self s)) ∙ Bool·not-not (eqb s 0))
-  where
-    and-same : (b : Bool) → (b && b) ≡ b
-    and-same true = refl
-    and-same false = refl
 
 count-suc : (w : ℕ) (f : ℕ → Bool) → count (suc w) f ≡ digit (f 0) + count w (λ a. f (suc a))
 unfolding count

@@ -2,7 +2,7 @@
 -- loop over a set of 32 digits knows at its head, whatever it does with the members.
 use mathlib.Core.Path.{_≡_, refl, sym, subst, ap, _∙_}
 use mathlib.Core.Logic.{_⊎_, inl, inr}
-use mathlib.Core.Bool.{Bool, true, false, not, _&&_, _||_, and-true}
+use mathlib.Core.Bool.{Bool, true, false, not, _&&_, _||_, and-true, or-false}
 use Prim.Native.Nat.{ℕ, zero, suc, _-_, _/_, _%_, _^_, _≤_, _<_}
 use native.Mathlib.Nat.{pow-suc}
 use native.Mathlib.Omega.{arith}
@@ -10,6 +10,7 @@ use lib.Bits.{and-self, and-zero-r, xor-self, xor-zero-r}
 use lib.Count.{trailingZeros, under}
 use lib.Dec.{T, eqb, eqb→eq, eqb-refl, T-not, eqb·suc-suc, eqb·suc-zero}
 use lib.Pow.{pow-pos}
+use borrow.Author.Tests.{ne-eqb}
 use Rattle.theory.specs.Sets.{has, difference}
 use Rattle.theory.proofs.Lowest.{Lowest}
 use Rattle.theory.proofs.Sets.{has-suc, has-difference}
@@ -84,6 +85,7 @@ pub record Turn (set visited a visited′ left′ : ℕ) : Type 0 where
   pub below : a < 32
   pub member : T (has set a)
   pub lower : (b : ℕ) → T (has visited b) → b < a
+  pub inside : (b : ℕ) → T (has left′ b) → T (has set b)
   pub higher : (b : ℕ) → T (has left′ b) → a < b
   pub either : (b : ℕ) → T (has set b) → T (has visited′ b) ⊎ T (has left′ b)
   pub grown : (b : ℕ) → has visited′ b ≡ (has visited b || eqb b a)
@@ -95,8 +97,18 @@ module _ {set visited a visited′ left′ : ℕ} (t : Turn set visited a visite
   pub turn-keeps : (b : ℕ) → T (has visited b) → T (has visited′ b)
   turn-keeps b h = subst T (sym (t .grown b)) (or-left (has visited b) (eqb b a) h)
 
+  pub turn-other : (b : ℕ) → ¬ (b ≡ a) → has visited′ b ≡ has visited b
+  turn-other b ne = t .grown b ∙ ap (λ x. has visited b || x) (ne-eqb b a ne) ∙ or-false (has visited b)
+
   pub turn-cases : (b : ℕ) → T (has visited′ b) → T (has visited b) ⊎ (b ≡ a)
   turn-cases b h = elim (or-cases (has visited b) (eqb b a) (subst T (t .grown b) h)) [ inl v ↦ inl v | inr e ↦ inr (eqb→eq b a e) ]
+
+  -- The members above a are left.
+  pub turn-above : (b : ℕ) → T (has set b) → a < b → T (has left′ b)
+  turn-above b h l = elim (t .either b h) [
+    | inl v ↦ elim (turn-cases b v) [ inl w ↦ absurd (omega (arith, t .lower b w)) | inr e ↦ absurd (omega arith) ]
+    | inr u ↦ u
+  ]
 
 -- Nothing is visited yet.
 pub visit-start : {known : ℕ → Type 0} (set : ℕ) → set < 2 ^ 32 → known 0 → Visit set set known
@@ -139,11 +151,12 @@ module _ {set left : ℕ} {known : ℕ → Type 0} (v : Visit set left known) (s
     still : (b : ℕ) → T (has left′ b) → T (has left b)
     still b t = and-left (has left b) (not (eqb b a)) (subst T (left-without b) t)
 
-    visit-turn : Turn set (difference set left) a (difference set left′) left′
+    pub visit-turn : Turn set (difference set left) a (difference set left′) left′
     visit-turn = record {
       below = visit-below;
       member = visit-member;
       lower = λ b t. v .order b a t (own .lowest .passes);
+      inside = λ b t. v .within b (still b t);
       higher = λ b t. omega (arith, own .lowest .least b (still b t), other b t);
       either = λ b t. part (has set b) (has left′ b) t (has-difference set left′ b);
       grown = λ b.
