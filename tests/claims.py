@@ -24,8 +24,8 @@ from wrong_programs import trials, unfit_together
 TOP = os.path.join(os.path.dirname(os.path.abspath(__file__)), "..")
 CLAIMS = "docs/CLAIMS.md"
 DOCUMENTS = [CLAIMS] + [f"docs/{name}.md" for name in ("PROMISES", "GLOSSARY", "PROVING", "ARCHITECTURE", "DECISIONS", "REFERENCE")] + ["README.md"]
-# The tests' own crates, which are no part of the library.
-INSTRUMENTS = {"harness", "replies"}
+# The tests' own crate, which is no part of the library.
+INSTRUMENTS = {"harness"}
 # What a row says in place of a list that is worked out here.
 EVERY = "every public function"
 REQUIREMENT = re.compile(r"(?<![\w-])[A-Z]-\d+(?:\.\d+)?(?!\w)")

@@ -64,7 +64,7 @@ FILES = [
 SAID = [
     ("reach", "search", ["S-4.5"], "mark_reached", True),
     ("reach", "search", [], "mark_reached – as `search_64` is called", True),
-    ("faults", None, [], "src/lib: limit; find", True),
+    ("table", None, [], "src/faults: limit; find", True),
     ("writer", "rows::step_lines", [], "write; text: example-orders", True),
     ("reach", "search", ["S-4.99"], "mark_reached", False),
     ("reach", "search", [], "mark_searched", False),
@@ -73,7 +73,7 @@ SAID = [
     ("reach", "search", [], "search", False),
     ("reach", "search", [], "mark_reached – as `search_65` is called", False),
     ("reach", "search", [], "src/library: mark_reached", False),
-    ("faults", None, [], "limit", False),
+    ("table", None, [], "limit", False),
     ("writer", "rows::step_lines", [], "write; texts: example-orders", False),
 ]
 
@@ -161,7 +161,7 @@ def main():
     found += [(line, all(not list(faults_of(*one)) for one in cited(line)) == holds) for line, holds in LINES]
     found += [(text, holds_together(text) == holds) for text, holds in ROWS]
     found += [(each, is_missed(*each, known)) for each in [("sets", "width"), ("reader", "read_alone"), ("moqresam", "moqresam_refine")]]
-    found += [(path, is_counted(path)) for path in ("crates/faults/must-fail/rows_left_out.edit", "crates/stars/must-fail/wrong_figure.edit")]
+    found += [(path, is_counted(path)) for path in ("crates/table/must-fail/rows_left_out.edit", "crates/stars/must-fail/wrong_figure.edit")]
     faults = [f"judged wrongly: {words}" for words, right in found if not right]
     return tell(faults, len(found), f"wrong programs, citations and rows: {len(found)} tried on the scripts that look at them, {len(faults)} faults")
 

@@ -16,6 +16,6 @@ made-of s t line verdict value a a′ b b′ x d e f u = u ∙ rw (d, e, f)
 pub told : {E : Type 0} (f : E → Reply) (c v : E) (x : Reply) → c ≡ v → x ≡ f v → x ≡ f c
 told f c v x e u = u ∙ ap f (sym e)
 
--- The same of the follower's, which is told with the state that was given.
+-- A case of the monitor's reply, which is told with the state that was given.
 pub told-at : {E : Type 0} (f : ℕ → E → Reply) (s : ℕ) (c v : E) (x : Reply) → c ≡ v → x ≡ f s v → x ≡ f s c
 told-at f s = told (f s)

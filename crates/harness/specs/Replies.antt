@@ -64,11 +64,11 @@ bareReply number table line verdict value = wholeReply (statusNowhere number tab
 abbrev pub refusedReply : Refusal → ℕ → Reply
 refusedReply r value = wholeReply (statusOf r) 0 false value noTable noTable
 
--- One table is.
+-- One table is given back.
 abbrev pub headedReply : Bool → ℕ → Automaton → Reply
 headedReply verdict value a = wholeReply acceptedStatus 0 verdict value a noTable
 
--- Two are.
+-- Two tables are given back.
 abbrev pub bothReply : Automaton → Automaton → Reply
 bothReply a b = wholeReply acceptedStatus 0 false 0 a b
 
@@ -82,7 +82,7 @@ abbrev pub mirrored : Mirrored → Reply
 mirrored (mirror.Mirror h) = headedReply false 0 h
 mirrored (mirror.Refused r) = refusedReply r 0
 
--- Not moved or refused, the state is the one that was given.
+-- Where the monitor did not move, or the call is refused, the state is the one that was given.
 abbrev pub followed : ℕ → Followed → Reply
 followed state (follow.Moved to) = bareReply 0 0 0 true to
 followed state follow.NotNow = bareReply 0 0 0 false state
@@ -117,7 +117,7 @@ abbrev pub aloneRead : Alone → Reply
 aloneRead (alone.Table h) = headedReply false 0 h
 aloneRead (alone.Refused r) = bareReply (r .number) (r .text) (r .line) false 0
 
--- The module's table is the first, the plan's the second.
+-- The component's table is the first, the specification's the second.
 abbrev pub togetherRead : Together → Reply
 togetherRead (together.Tables m p) = bothReply m p
 togetherRead (together.Refused r) = bareReply (r .number) (r .text) (r .line) false 0

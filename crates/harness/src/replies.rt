@@ -23,34 +23,34 @@ pub struct Reply {
     pub number: u32,
     pub table: u32,
     pub line: usize,
-    // The verdict; whether the follower moved.
+    // The verdict; whether the monitor moved.
     pub yes: bool,
     // Rounds, a state, or a length.
     pub value: usize,
-    // Header of the table given back; of the module, where two texts are read together.
+    // Header of the table given back; of the component, where two texts are read together.
     pub states: usize,
     pub initial: usize,
     pub inputs: u32,
     pub outputs: u32,
-    // Header of the plan, where two texts are read together.
+    // Header of the specification, where two texts are read together.
     pub states_2: usize,
     pub initial_2: usize,
     pub inputs_2: u32,
     pub outputs_2: u32,
-    // Whether the refusal names a cell of the table, and which: document 02's place.
+    // Whether the refusal names a cell of the table, and which (document 02, S-2: the place).
     pub placed: bool,
     pub cell_state: usize,
     pub cell_signal: usize,
 }
 
-// The numbers of no table.
+// Makes the header of no table: all its numbers are 0.
 fn none() -> Automaton
     ensures { λ r. ⌜ r ≡ noTable ⌝ }
 {
     table::header(0, 0, 0, 0)
 }
 
-// Every field of the record.
+// Makes a reply with every field given: `a` and `b` are the headers given back.
 fn whole(s: Status, line: usize, verdict: bool, value: usize, a: Automaton, b: Automaton) -> Reply
     ensures { λ r. ⌜ r ≡ wholeReply s line verdict value a b ⌝ }
 {
@@ -88,21 +88,21 @@ pub fn bare(number: u32, table: u32, line: usize, verdict: bool, value: usize) -
     )
 }
 
-// A call on tables is refused; `value` is the follower's state.
+// Makes the reply of a refused call on tables; `value` is the monitor's state, 0 for any other call.
 fn refused(r: Refusal, value: usize) -> Reply
     ensures { λ x. ⌜ x ≡ refusedReply r value ⌝ }
 {
     whole(table::status_of(r), 0, false, value, none(), none())
 }
 
-// One table is given back.
+// Makes a reply that gives back one table.
 fn headed(verdict: bool, value: usize, a: Automaton) -> Reply
     ensures { λ r. ⌜ r ≡ headedReply verdict value a ⌝ }
 {
     whole(table::accepted(), 0, verdict, value, a, none())
 }
 
-// Two tables are.
+// Makes a reply that gives back two tables.
 fn both(a: Automaton, b: Automaton) -> Reply
     ensures { λ r. ⌜ r ≡ bothReply a b ⌝ }
 {
@@ -129,7 +129,7 @@ pub fn mirrored(c: Mirrored) -> Reply
     }
 }
 
-// Puts the reply of `table::follow` into the record; the value is the state after it, which is `state` if the follower did not move.
+// Puts the reply of `table::follow` into the record; the value is the state after it, which is `state` if the monitor did not move.
 pub fn followed(state: usize, c: Followed) -> Reply
     ensures { λ r. ⌜ r ≡ followedReply state c ⌝ }
 {

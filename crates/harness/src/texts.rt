@@ -1,4 +1,4 @@
-// The calls on table text.
+// Calls on table text: reading, looking up names, writing, and what the two programs print.
 ghost use mathlib.Core.Path.{_≡_};
 ghost use Prim.Native.Nat.{_≤_};
 ghost use lib.ListN.{length};

@@ -1,9 +1,8 @@
-// The calls on one table, and the counts.
+// Calls on one table: judge, mirror, the monitor (document 01: follower), counts, and what is reached.
 ghost use mathlib.Core.Path.{_≡_};
 ghost use Rattle.theory.specs.Table.{keptCount};
 ghost use Rattle.theory.specs.Checks.{first, tableChecks};
-ghost use Rattle.table.specs.Contract.{mirrorReply};
-ghost use Rattle.table.specs.Contract.{followReply};
+ghost use Rattle.table.specs.Contract.{mirrorReply, followReply};
 ghost use Rattle.reach.specs.Marks.{reachedMarks};
 ghost use Rattle.reach.specs.Ends.{endsIn};
 ghost use Rattle.table.specs.StepCounts.{stepsIn};
@@ -42,7 +41,7 @@ pub extern "C" fn harness_mirror(
     replies::mirrored(table::mirror(a, cells))
 }
 
-// Makes one step of the follower from a state by a signal.
+// Makes one step of the monitor from a state by a signal.
 #[no_mangle]
 pub extern "C" fn harness_follow(
     states: usize,
@@ -83,7 +82,7 @@ pub extern "C" fn harness_count_steps(states: usize, cells: &[u16]) -> usize
     table::count_steps(states, cells)
 }
 
-// Counts the ends of a composition, by its table and flags.
+// Counts the ends of a composition, whose table and flags these are.
 #[no_mangle]
 pub extern "C" fn harness_count_ends(
     states: usize,

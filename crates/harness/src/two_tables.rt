@@ -1,4 +1,4 @@
-// The calls on two tables.
+// Calls on two tables: product, compatibility (document 01: fit), composition, refinement, synthesis (document 01: the sequencer maker).
 ghost use mathlib.Core.Path.{_≡_};
 ghost use lib.ListN.{length};
 ghost use Rattle.compatibility.specs.Replies.{compatibilityReply, compatibilityFlags};
@@ -39,7 +39,7 @@ pub extern "C" fn harness_product(
     replies::multiplied(composition::product(a, cells_a, b, cells_b, cells))
 }
 
-// Decides whether the tables fit; the flags are in the lent buffer.
+// Decides whether the tables are compatible; the flags are in the lent buffer.
 #[no_mangle]
 pub extern "C" fn harness_fit(
     states_a: usize,
@@ -131,7 +131,8 @@ pub extern "C" fn harness_refine(
     replies::refined(refinement::refine(a, cells_a, b, cells_b, marks))
 }
 
-// Makes the sequencer of a module and a plan; cells and flags are in the lent buffers.
+// Makes the controller of a component and a specification (document 01: the sequencer of a module and a plan); cells and flags are in the lent
+// buffers.
 #[no_mangle]
 pub extern "C" fn harness_synthesize(
     states_a: usize,
