@@ -1,3 +1,3 @@
-pub mod Visit
+pub mod Listed
 pub mod Names
 pub mod Checks

@@ -1,21 +1,23 @@
 -- The questions about names, as loops over a set answer them.
 use mathlib.Core.Path.{_≡_, refl, sym, ap, subst, _∙_}
 use mathlib.Core.Logic.{inl, inr}
-use mathlib.Core.Bool.{Bool, true, false, not, _&&_, _||_}
+use mathlib.Core.Bool.{Bool, true, false, not, _&&_}
 use mathlib.Core.List.{List, [], _∷_}
 use Prim.Native.Nat.{ℕ, zero, suc, _-_, _^_, _≤_, _<_}
 use native.Mathlib.Omega.{arith}
-use native.Mathlib.Decide.{decLt, ℕ-discrete}
+use native.Mathlib.Decide.{decLt}
 use denote.Ref.{RefT, now}
 use lib.Count.{trailingZeros}
-use lib.Dec.{T, leb}
+use lib.Dec.{T, eqb, leb}
 use lib.ListN.{length, getD, length-map, List·getD-eq-default}
 use borrow.Author.Tests.{leb-true, not-false}
 use Rattle.theory.specs.Bounded.{any}
 use Rattle.theory.specs.Sets.{has}
 use Rattle.theory.proofs.Bounded.{any-at, at-any}
-use Rattle.theory.proofs.Tests.{or-cases, or-left, or-right, and-left, and-right, and-both, same-test}
-use Rattle.sets.proofs.Visit.{low, has-none}
+use Rattle.theory.proofs.Tests.{and-left, and-right, and-both}
+use Rattle.theory.proofs.Sets.{has-lt}
+use Rattle.sets.proofs.Members.{has-none}
+use Rattle.sets.proofs.Visit.{low, Turn, turn-cases, turn-above}
 use Rattle.text.specs.declared.Spelling.{Spelling}
 use Rattle.text.specs.declared.Spelling.the-variants.{Exact, Folded}
 use Rattle.text.specs.Fields.{matches, all, nameByte, nameOk}
@@ -23,7 +25,6 @@ use Rattle.text.specs.Writing.{nameOf}
 use Rattle.text.proofs.Names.{same-match}
 use Rattle.text.proofs.Entries.{is-true, is-false}
 use Rattle.names.specs.Names.{texts, anyOf, repeated, Named}
-use Rattle.names.proofs.Visit.{any-lowest, any-empty, of-rest, to-rest}
 
 -- ---- the lent names
 
@@ -66,6 +67,9 @@ module _ (set : ℕ) (names : List (List ℕ)) (e : anyOf set (λ (a : ℕ). not
     short = λ a k h. short-name (nameOf names a) (good a k h);
   }
 
+pub named-part : (names : List (List ℕ)) (set part : ℕ) → ((a : ℕ) → T (has part a) → T (has set a)) → Named set names → Named part names
+named-part names set part inside n = record { entry = λ a k h. n .entry a k (inside a h); short = λ a k h. n .short a k (inside a h) }
+
 module _ (names : List (List ℕ)) (left : ℕ) (bound : left < 2 ^ 32) (some : ¬ (left ≡ 0)) (n : Named left names) where
   pub named-lowest : trailingZeros 32 left < length names
   named-lowest = let k = low 32 left (omega arith) bound in n .entry _ (k .lowest .below) (k .lowest .passes)
@@ -73,30 +77,33 @@ module _ (names : List (List ℕ)) (left : ℕ) (bound : left < 2 ^ 32) (some : 
   pub short-lowest : length (nameOf names (trailingZeros 32 left)) ≤ 16
   short-lowest = let k = low 32 left (omega arith) bound in n .short _ (k .lowest .below) (k .lowest .passes)
 
-  in-rest : (a : ℕ) → T (has (left - 2 ^ trailingZeros 32 left) a) → T (has left a)
-  in-rest a h = of-rest 32 left (omega arith) bound a h .0
-
   pub named-rest : Named (left - 2 ^ trailingZeros 32 left) names
-  named-rest = record { entry = λ a k h. n .entry a k (in-rest a h); short = λ a k h. n .short a k (in-rest a h) }
+  named-rest =
+      let k = low 32 left (omega arith) bound in
+      named-part names left (left - 2 ^ trailingZeros 32 left) (λ a h. and-left (has left a) (not (eqb a (trailingZeros 32 left))) (subst T (k .rest a) h)) n
 
--- ---- a loop over the set: what holds of the members left is the answer
+-- ---- a question about the members of a set: none of those visited passes, until one does or all are visited
 
-module _ (f : ℕ → Bool) (answer : Bool) (left : ℕ) (bound : left < 2 ^ 32) (i : anyOf left f ≡ answer) where
-  pub any-done : left ≡ 0 → false ≡ answer
-  unfolding anyOf
-  any-done e = sym (any-empty 32 f) ∙ (rw e at i)
+module _ (f : ℕ → Bool) where
+  abbrev pub None : ℕ → Type 0
+  None visited = (a : ℕ) → T (has visited a) → f a ≡ false
 
-  module _ (some : ¬ (left ≡ 0)) where
-    turn : (f (trailingZeros 32 left) || anyOf (left - 2 ^ trailingZeros 32 left) f) ≡ answer
+  pub none-start : None 0
+  none-start a t = absurd (subst T (has-none a) t)
+
+  pub none-turn : {set visited s visited′ left′ : ℕ} → Turn set visited s visited′ left′ → f s ≡ false → None visited → None visited′
+  none-turn t e n a h = elim (turn-cases t a h) [ inl v ↦ n a v | inr q ↦ rw q e ]
+
+  module _ (set : ℕ) where
+    pub none-end : None set → false ≡ anyOf set f
     unfolding anyOf
-    turn = sym (any-lowest 32 left (omega arith) bound f) ∙ i
+    none-end n = sym (is-false (anyOf set f) (λ h.
+        let (a, l, b) = any-at 32 (λ a. has set a && f a) h in
+        subst T (n a (and-left (has set a) (f a) b)) (and-right (has set a) (f a) b)))
 
-    module _ (s : ℕ) (lowest : s ≡ trailingZeros 32 left) where
-      pub any-found : f s ≡ true → true ≡ answer
-      any-found e = rw (sym (ap f lowest) ∙ e) at turn
-
-      pub any-again : f s ≡ false → (left′ : ℕ) → left′ ≡ left - 2 ^ trailingZeros 32 left → anyOf left′ f ≡ answer
-      any-again e left′ h = rw h (rw (sym (ap f lowest) ∙ e) at turn)
+    pub one-found : (s : ℕ) → s < 32 → T (has set s) → f s ≡ true → true ≡ anyOf set f
+    unfolding anyOf
+    one-found s l h e = sym (is-true (anyOf set f) (at-any 32 (λ a. has set a && f a) s l (and-both (has set s) (f s) h (rw e tt))))
 
 -- What a test on a name says of it.
 pub bad-missing : (names : List (List ℕ)) (i : ℕ) → length names ≤ i → not (nameOk (nameOf names i)) ≡ true
@@ -149,62 +156,39 @@ module _ (c : Spelling) (names : List (List ℕ)) where
         match = and-right (has set a && has set b) (alike a b) v;
       }
 
-  module _ (s : ℕ) (bound : s < 2 ^ 32) (some : 0 < s) where
-    abbrev t : ℕ
-    t = trailingZeros 32 s
+  -- No name of a member visited matches that of a higher member.
+  pub record Apart (set visited : ℕ) : Type 0 where
+    pub apart : (a b : ℕ) → T (has visited b) → T (has set a) → b < a → ¬ T (alike a b)
 
-    abbrev rest : ℕ
-    rest = s - 2 ^ t
+  pub apart-start : (set : ℕ) → Apart set 0
+  apart-start set = record { apart = λ a b t. absurd (subst T (has-none b) t) }
 
-    -- The name of the lowest member matches that of another, or those of two others match.
-    repeated-lowest : repeated c s names ≡ (anyOf rest (λ a. alike a t) || repeated c rest names)
+  pub apart-end : (set : ℕ) → Apart set set → false ≡ repeated c set names
+  apart-end set n = sym (is-false (repeated c set names) (λ h. let p = find set h in n .apart (p .a) (p .b) (p .second) (p .first) (p .below) (p .match)))
+
+  -- The name of one more member is held against those above it.
+  module _ {set visited s visited′ left′ : ℕ} (bound : set < 2 ^ 32) (t : Turn set visited s visited′ left′) (name : List ℕ) (named : name ≡ nameOf names s) (r : Bool)
+      (taken : r ≡ anyOf left′ (λ (a : ℕ). matches c (nameOf names a) name)) where
+    pub apart-turn : r ≡ false → Apart set visited → Apart set visited′
     unfolding anyOf
-    repeated-lowest = same-test forth back
-      where
-        forth : T (repeated c s names) → T (anyOf rest (λ a. alike a t) || repeated c rest names)
-        forth h =
-            let p = find s h in
-            let above : t < p .a = omega (arith, low 32 s some bound .lowest .least (p .b) (p .second), p .below) in
-            let higher : T (has rest (p .a)) = to-rest 32 s some bound (p .a) (p .first) (λ e. omega arith) in
-            elim (ℕ-discrete (p .b) t) [
-              | yes e ↦
-                  or-left (anyOf rest (λ a. alike a t)) (repeated c rest names)
-                  (at-any 32 (λ a. has rest a && alike a t) (p .a) (p .small)
-                  (and-both (has rest (p .a)) (alike (p .a) t) higher (subst (λ (y : ℕ). T (alike (p .a) y)) e (p .match))))
-              | no d ↦
-                  or-right (anyOf rest (λ a. alike a t)) (repeated c rest names)
-                  (found rest (p .a) (p .b) (p .small) (p .below) higher (to-rest 32 s some bound (p .b) (p .second) d) (p .match))
-            ]
+    apart-turn e n = record {
+      apart = λ a b h m l. elim (turn-cases t b h) [
+        | inl v ↦ n .apart a b v m l
+        | inr q ↦ λ x.
+            let u : T (has left′ a) = turn-above t a m (omega arith) in
+            let y : T (matches c (nameOf names a) name) = rw (named, ← q) x in
+            subst T (sym taken ∙ e)
+            (at-any 32 (λ a. has left′ a && matches c (nameOf names a) name) a (has-lt 32 set a bound m) (and-both (has left′ a) (matches c (nameOf names a) name) u y))
+      ];
+    }
 
-        back : T (anyOf rest (λ a. alike a t) || repeated c rest names) → T (repeated c s names)
-        back h = elim (or-cases (anyOf rest (λ a. alike a t)) (repeated c rest names) h) [
-          | inl u ↦
-              let (a, l, v) = any-at 32 (λ a. has rest a && alike a t) u in
-              let (x, above) = of-rest 32 s some bound a (and-left (has rest a) (alike a t) v) in
-              found s a t l above x (low 32 s some bound .lowest .passes) (and-right (has rest a) (alike a t) v)
-          | inr u ↦
-              let p = find rest u in
-              let member = of-rest 32 s some bound in
-              found s (p .a) (p .b) (p .small) (p .below) (member (p .a) (p .first) .0) (member (p .b) (p .second) .0) (p .match)
-        ]
-
-  module _ (answer : Bool) (left : ℕ) (bound : left < 2 ^ 32) (i : repeated c left names ≡ answer) where
-    pub repeated-done : left ≡ 0 → false ≡ answer
-    repeated-done e = sym (is-false (repeated c left names) (λ h. none (find left h))) ∙ i
-      where
-        none : Found left → ⊥
-        none p = let z : T (has 0 (p .a)) = subst (λ (x : ℕ). T (has x (p .a))) e (p .first) in subst T (has-none (p .a)) z
-
-    module _ (some : ¬ (left ≡ 0)) (s : ℕ) (lowest : s ≡ trailingZeros 32 left) (name : List ℕ) (named : name ≡ nameOf names s) (left′ : ℕ)
-        (rested : left′ ≡ left - 2 ^ trailingZeros 32 left) (r : Bool) (taken : r ≡ anyOf left′ (λ (a : ℕ). matches c (nameOf names a) name)) where
-      either : (r || repeated c left′ names) ≡ answer
-      either = rw (taken, named, lowest, rested) (sym (repeated-lowest left bound (omega arith)) ∙ i)
-
-      pub repeated-found : r ≡ true → true ≡ answer
-      repeated-found e = rw e at either
-
-      pub repeated-again : r ≡ false → repeated c left′ names ≡ answer
-      repeated-again e = rw e at either
+    pub apart-found : r ≡ true → true ≡ repeated c set names
+    unfolding anyOf
+    apart-found e =
+        let (a, l, b) = any-at 32 (λ a. has left′ a && matches c (nameOf names a) name) (subst T (sym e ∙ taken) tt) in
+        let u : T (has left′ a) = and-left (has left′ a) (matches c (nameOf names a) name) b in
+        let x : T (alike a s) = rw (← named) (and-right (has left′ a) (matches c (nameOf names a) name) b) in
+        sym (is-true (repeated c set names) (found set a s l (t .higher a u) (t .inside a u) (t .member) x))
 
 -- Where no two names are the same when the case of letters is ignored, no two are equal.
 pub exact-none : (names : List (List ℕ)) (set : ℕ) → repeated Folded set names ≡ false → repeated Exact set names ≡ false

@@ -125,13 +125,12 @@ module _ (m p : List ℕ) (a b : Table) (cells flags cells′ flags′ : List �
     flagged = length-tabulate _ 0 (t .header .states)
 
     -- The sizes fit.
-    fits : Searchable (t .header .initial) (t .header .states) (length (t .cells)) (length (synthesis a b .flags))
+    fits : Searchable (t .header .initial) (t .header .states) (length (t .cells))
     fits =
         let v = checks-premises a b (n * 32) n yes in record {
           few = v .few-pairs;
           first = pair-lt (a .header .states) (b .header .states) (omega (arith, v .specification .initial)) (v .component .initial) (v .specification .initial);
           cells-each = full;
-          entry-each = flagged;
         }
 
     -- The figures that are counted in the buffers are those of the table.
@@ -144,7 +143,7 @@ module _ (m p : List ℕ) (a b : Table) (cells flags cells′ flags′ : List �
         let steps : stepsIn (t .header .states) cells′ ≡ stepCount t =
         ap (stepsIn (t .header .states)) cells-are ∙ steps-of-table t (omega (arith, fits .few)) full in
         let ends : endsIn (table (t .header) cells′) flags′ ≡ endCount t (synthesis a b .flags) =
-        (λ i. endsIn (table (t .header) (cells-are i)) (flags-are i)) ∙ ends-of-table t (synthesis a b .flags) fits in
+        (λ i. endsIn (table (t .header) (cells-are i)) (flags-are i)) ∙ ends-of-table t (synthesis a b .flags) fits flagged in
         λ i. figures v (t .header .states) (keptCount (flags-are i)) (synthesis a b .rounds) (steps i) (ends i)
 
     checked-same : replyChecked m p s cells′ ≡ whole

@@ -1,1 +1,4 @@
+pub mod Conds
+pub mod Members
+pub mod SetOf
 pub mod Visit

@@ -14,7 +14,7 @@ use Rattle.theory.specs.Table.{table, member}
 use Rattle.theory.specs.Checks.{declared}
 use Rattle.theory.proofs.Sets.{member-or}
 use Rattle.theory.proofs.Tests.{or-cases, or-left, or-right}
-use Rattle.sets.proofs.Visit.{has-none, has-power}
+use Rattle.sets.proofs.Members.{has-none, has-power}
 use Rattle.text.specs.declared.Role.{Role}
 use Rattle.text.specs.declared.Role.the-variants.{Input, Output}
 use Rattle.text.specs.Reading.{withRole}

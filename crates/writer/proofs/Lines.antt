@@ -29,7 +29,7 @@ use Rattle.emit.proofs.Buffer.{Puts, puts-none, puts-then}
 use Rattle.names.specs.Names.{texts, Named}
 use Rattle.names.proofs.Names.{name-lent, lent-length}
 use Rattle.names.proofs.Checks.{declared-has}
-use Rattle.names.proofs.Visit.{those-same, those-lowest, those-empty}
+use Rattle.names.proofs.Listed.{those-same, those-lowest, those-empty}
 use Rattle.writer.specs.Rows.{signalLines, cellText, steps, stateLines, stepLines, Known, Writable}
 
 -- ---- signals

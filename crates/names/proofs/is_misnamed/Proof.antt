@@ -1,25 +1,23 @@
-use native.Mathlib.Omega.{arith}
-use lib.Count.{trailingZeros}
-use lib.Pow.{pow-pos}
-use Rattle.names.proofs.Names.{lent-length, any-found, any-again, any-done, bad-missing, bad-told}
-use mathlib.Core.Path.{_≡_}
 use mathlib.Core.Bool.{not}
-use Prim.Native.Nat.{ℕ, _^_, _<_}
+use Prim.Native.Nat.{ℕ}
+use native.Mathlib.Omega.{arith}
 use Rattle.text.specs.Fields.{nameOk}
 use Rattle.text.specs.Writing.{nameOf}
-use Rattle.names.specs.Names.{texts, anyOf}
+use Rattle.sets.proofs.Visit.{Visit, visit-start, visit-below, visit-member, visit-less, visit-step, visit-end}
+use Rattle.names.specs.Names.{texts}
+use Rattle.names.proofs.Names.{lent-length, None, none-start, none-turn, none-end, one-found, bad-missing, bad-told}
 use borrow.Author.Needs.{needs}
 use Rattle.names.proofs.is_misnamed.Statement.{statement}
 use Rattle.names.proofs.is_misnamed.Tie as tie
 
 abbrev Inv-loop : tie.InvT-loop
-Inv-loop signals names left₀ left = (left < 2 ^ 32) × (anyOf left (λ (a : ℕ). not (nameOk (nameOf (texts names) a))) ≡ anyOf signals (λ (a : ℕ). not (nameOk (nameOf (texts names) a))))
+Inv-loop signals names left₀ left = Visit signals left (None (λ (a : ℕ). not (nameOk (nameOf (texts names) a))))
 
 abbrev μ-loop : tie.MeasureT-loop
 μ-loop signals names left₀ left = left
 
 loop-holds : tie.Need-loop-holds Inv-loop μ-loop
-loop-holds c = search needs
+loop-holds c = visit-start _ (omega arith) (none-start _)
 
 lowest-requires : tie.Need-lowest-requires Inv-loop μ-loop
 lowest-requires c κs = search needs
@@ -32,7 +30,8 @@ returns c =
     let s = c .before in
     let l = s .before .before in
     let names = l .before .args .names .now in
-    any-found _ _ _ (l .loop .inv .0) (l .loop .inv .1) (s .before .loop-test .taken) _ (s .lowest .ensures)
+    let more = s .before .loop-test .taken in
+    one-found _ _ _ (visit-below (l .loop .inv) more _ (s .lowest .ensures)) (visit-member (l .loop .inv) more _ (s .lowest .ensures))
     (bad-missing (texts names) (s .lowest .result) (omega (arith, lent-length names)))
 
 mul-is-name : tie.Need-mul-is-name Inv-loop μ-loop
@@ -49,28 +48,29 @@ returns-2 c =
     let e = c .before .before .before in
     let s = e .before in
     let l = s .before .before in
-    any-found _ _ _ (l .loop .inv .0) (l .loop .inv .1) (s .before .loop-test .taken) _ (s .lowest .ensures)
+    let more = s .before .loop-test .taken in
+    one-found _ _ _ (visit-below (l .loop .inv) more _ (s .lowest .ensures)) (visit-member (l .loop .inv) more _ (s .lowest .ensures))
     (bad-told (l .before .args .names .now) _ _ (e .if1 .left) _ _ (c .before .is-name .ensures) (c .if2 .taken))
 
 rest-requires : tie.Need-rest-requires Inv-loop μ-loop
 rest-requires c κs = search needs
 
 loop-less : tie.Need-loop-less Inv-loop μ-loop
-loop-less c = omega (arith, pow-pos (trailingZeros 32 (c .before .before .before .before .before .before .before .loop .left)), c .rest .ensures)
+loop-less c =
+    let s = c .before .before .before .before .before in
+    visit-less (s .before .before .loop .inv) (s .before .loop-test .taken) _ (s .lowest .ensures) _ (c .rest .ensures)
 
 loop-again : tie.Need-loop-again Inv-loop μ-loop
 loop-again c =
     let t = c .before in
     let e = t .before .before .before in
     let s = e .before in
-    let l = s .before .before in (
-      omega (arith, c .rest .ensures),
-      any-again _ _ _ (l .loop .inv .0) (l .loop .inv .1) (s .before .loop-test .taken) _ (s .lowest .ensures)
-          (bad-told (l .before .args .names .now) _ _ (e .if1 .left) _ _ (t .before .is-name .ensures) (t .if2 .left)) _ (c .rest .ensures),
-    )
+    let l = s .before .before in
+    visit-step (l .loop .inv) (s .before .loop-test .taken) _ (s .lowest .ensures) _ (c .rest .ensures)
+    (λ visited visited′ v n. none-turn _ v (bad-told (l .before .args .names .now) _ _ (e .if1 .left) _ _ (t .before .is-name .ensures) (t .if2 .left)) n)
 
 returns-3 : tie.Need-returns-3 Inv-loop μ-loop
-returns-3 c = let l = c .before .loop in any-done _ _ _ (l .inv .0) (l .inv .1) (c .loop-test .left)
+returns-3 c = none-end _ _ (visit-end (c .before .loop .inv) (c .loop-test .left))
 
 pub is-misnamed-spec : {M : Type 1} → statement M
 is-misnamed-spec =
