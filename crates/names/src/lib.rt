@@ -11,7 +11,7 @@ use text::Spelling;
 use theory::Automaton;
 use theory::Checked;
 
-// Whether the name of some signal breaks the name rule.
+// Tells whether the name of some signal breaks the name rule.
 fn is_misnamed(signals: u32, names: &[&[u8]]) -> bool
     ensures { λ r. ⌜ r ≡ anyOf signals (λ (a : ℕ). not (nameOk (nameOf (texts (now (names .entry))) a))) ⌝ }
 {
@@ -29,7 +29,7 @@ fn is_misnamed(signals: u32, names: &[&[u8]]) -> bool
     false
 }
 
-// Whether the name of some signal matches the given one in a spelling.
+// Tells whether the name of some signal matches the given one in a spelling.
 fn is_taken(spelling: Spelling, signals: u32, names: &[&[u8]], name: &[u8]) -> bool
     requires { ⌜ Named signals (texts (now names)) ⌝ }
     ensures { λ r. ⌜ r ≡ anyOf signals (λ (a : ℕ). matches spelling (nameOf (texts (now (names .entry))) a) (now (name .entry))) ⌝ }
@@ -45,7 +45,7 @@ fn is_taken(spelling: Spelling, signals: u32, names: &[&[u8]], name: &[u8]) -> b
     false
 }
 
-// Whether the names of two signals match in a spelling: each is held against those above it.
+// Tells whether the names of two signals match in a spelling: compares each with those of higher number.
 fn is_repeated(spelling: Spelling, signals: u32, names: &[&[u8]]) -> bool
     requires { ⌜ Named signals (texts (now names)) ⌝ }
     ensures { λ r. ⌜ r ≡ repeated spelling signals (texts (now (names .entry))) ⌝ }
