@@ -8,7 +8,6 @@ use lib.ListN.{getD, length}
 use Rattle.theory.specs.declared.Automaton.{Automaton}
 use Rattle.theory.specs.Table.{Table, composition, productHeader}
 use Rattle.table.specs.Ready.{Ready}
-use Rattle.table.proofs.ReadySizes.{start-below}
 use Rattle.search.specs.declared.Question.{Question}
 use Rattle.search.specs.Search.{rankedPairs, pairRounds, flagged}
 use Rattle.product.specs.Kept.{keptFilled}

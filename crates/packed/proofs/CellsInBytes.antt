@@ -1,5 +1,5 @@
 -- How many cells bytes hold, and which: why the functions of src/cells meet their contracts, and what their callers need.
-use mathlib.Core.Path.{_≡_, sym}
+use mathlib.Core.Path.{_≡_}
 use mathlib.Core.Bool.{Bool, true, false, cond}
 use mathlib.Core.List.{List}
 use Prim.Native.Nat.{ℕ, _*_, _/_, _≤_, _<_}

@@ -1,6 +1,6 @@
 -- What the definitions say of a C call's table (01, "The parts we ship").
 use mathlib.Core.Path.{_≡_, sym, _∙_}
-use mathlib.Core.Bool.{not, _&&_, cond}
+use mathlib.Core.Bool.{_&&_, cond}
 use mathlib.Core.List.{List}
 use Prim.Native.Nat.{ℕ, _+_, _*_, _≤_, _<_}
 use native.Mathlib.Omega.{arith}
@@ -12,7 +12,6 @@ use Rattle.theory.specs.Bounded.{any}
 use Rattle.theory.specs.Table.{header, member}
 use Rattle.theory.specs.Checks.{first, refuseAt, check4, tableChecks}
 use Rattle.theory.proofs.Checks.{lists-overlap}
-use Rattle.theory.proofs.Filled.{any-default}
 use Rattle.packed.specs.Bytes.{cellsOfBytes, tableOfBytes}
 use Rattle.packed.proofs.CellsInBytes.{count-other, count-all, cells-count, cells-at}
 

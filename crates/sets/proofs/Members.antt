@@ -1,6 +1,6 @@
 -- Members of the empty set, of a power of two and of a set that gets one more; their number, and a bound on them; for any width.
 use mathlib.Core.Path.{_≡_, refl, sym, ap, ap₂, _∙_}
-use mathlib.Core.Bool.{Bool, true, false, not, _&&_, _||_, Bool·not-not, and-self as and-same}
+use mathlib.Core.Bool.{Bool, false, not, _||_, Bool·not-not, and-self as and-same}
 use Prim.Native.Nat.{ℕ, zero, suc, _+_, _-_, _/_, _%_, _^_, _<_}
 use native.Mathlib.Nat.{div-one, div-eq-of-lt, pow-suc, zero-div}
 use native.Mathlib.Decide.{decLt}

@@ -4,7 +4,7 @@ ghost use mathlib.Core.Path.{_≡_};
 ghost use mathlib.Core.Bool.{_&&_};
 ghost use Prim.Native.Nat.{ℕ, _*_, _≤_};
 ghost use Rattle.theory.specs.Bounded.{any};
-ghost use Rattle.theory.specs.Table.{table as tableOf, member, pairCount};
+ghost use Rattle.theory.specs.Table.{table as tableOf, member};
 ghost use Rattle.theory.specs.Checks.{first, shapeChecks, tableChecks, eachTable, sizeChecks, composableChecks, refinementChecks};
 ghost use Rattle.table.specs.Cells.{stepless};
 ghost use Rattle.table.specs.Room.{wrongRoom};

@@ -1,7 +1,6 @@
 // Writes the text of a table (document 01, "Table text").
 ghost use mathlib.Core.Path.{_≡_};
 ghost use Prim.Native.Nat.{_≤_};
-ghost use lib.Bits.{bitOr};
 ghost use lib.ListN.{length};
 ghost use Rattle.theory.specs.Table.{declaredSet, table};
 ghost use Rattle.theory.specs.Valid.{Valid};

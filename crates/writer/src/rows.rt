@@ -1,7 +1,6 @@
 // Writes the lines of a table's text: the `table` line, its declarations, its steps.
 ghost use mathlib.Core.Path.{_≡_};
 ghost use Prim.Native.Nat.{_<_};
-ghost use lib.Bits.{bitOr};
 ghost use lib.ListN.{length};
 ghost use Rattle.theory.specs.Table.{declaredSet, table};
 ghost use Rattle.theory.specs.Valid.{Valid};
