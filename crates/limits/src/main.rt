@@ -29,24 +29,14 @@ fn report(call: &[u8], number: u32) {
     say_number(b": refused ", number as u64);
 }
 
-// An automaton that accepts signal 31 and sends signal 0.
+// Makes the header of an automaton that accepts signal 31 and sends signal 0.
 fn of_states(states: usize) -> Automaton {
-    Automaton {
-        states,
-        initial: 0,
-        inputs: 2147483648,
-        outputs: 1,
-    }
+    table::header(states, 0, 2147483648, 1)
 }
 
-// Its counterpart, which sends signal 31 and accepts signal 0.
+// Makes the header of an automaton that sends signal 31 and accepts signal 0: the counterpart of `of_states`.
 fn counterpart(states: usize) -> Automaton {
-    Automaton {
-        states,
-        initial: 0,
-        inputs: 1,
-        outputs: 2147483648,
-    }
+    table::header(states, 0, 1, 2147483648)
 }
 
 // An automaton without steps, of so many cells.

@@ -11,7 +11,7 @@ use lib.ListN.{length, getD, set, length-set}
 use lib.Bits.{bitOr}
 use borrow.Author.Tests.{eq-eqb, ne-eqb, lt-ltb, le-ltb, le-leb, lt-leb, leb-false, not-true, not-false}
 use Rattle.theory.specs.declared.Automaton.{Automaton}
-use Rattle.theory.specs.Table.{table}
+use Rattle.theory.specs.Table.{table, header}
 use Rattle.theory.proofs.Filled.{any-default}
 use Rattle.theory.proofs.Table.{table-narrow}
 use Rattle.text.specs.declared.Place.the-variants.{Declarations, Steps as StepsPlace}
@@ -55,12 +55,12 @@ module _ (cells : List ℕ) (at to : ℕ) (ok : Putable cells at to) where
 -- The list of the role has the signal too.
 module _ (h : Automaton) (role : Role) (a : ℕ) (low : a < 32) where
   pub role-input : role ≡ Input → (l : ℕ) → l ≡ cond (ltb a 32) (bitOr (h .inputs) (2 ^ a)) (h .inputs)
-      → _≡_ {A = Automaton} (record { states = h .states; initial = h .initial; inputs = l; outputs = h .outputs }) (withRole role a h)
-  role-input e l f = rw (e, f, lt-ltb a 32 low)
+      → (r : Automaton) → r ≡ header (h .states) (h .initial) l (h .outputs) → r ≡ withRole role a h
+  role-input e l f r u = u ∙ rw (e, f, lt-ltb a 32 low)
 
   pub role-output : role ≡ Output → (l : ℕ) → l ≡ cond (ltb a 32) (bitOr (h .outputs) (2 ^ a)) (h .outputs)
-      → _≡_ {A = Automaton} (record { states = h .states; initial = h .initial; inputs = h .inputs; outputs = l }) (withRole role a h)
-  role-output e l f = rw (e, f, lt-ltb a 32 low)
+      → (r : Automaton) → r ≡ header (h .states) (h .initial) (h .inputs) l → r ≡ withRole role a h
+  role-output e l f r u = u ∙ rw (e, f, lt-ltb a 32 low)
 
 -- ---- the `table` line
 
@@ -87,11 +87,10 @@ module _ (st : State) (states initial room : ℕ) (ok : Sound st room) where
         means = λ m p cells l. simp (ne-eqb states 0 some, le-ltb 4096 states few, lt-leb states initial inside, l, lt-ltb room (states * 32) h);
       })
 
-      pub start-good : states * 32 ≤ room → (r : Advanced)
-          → r ≡ gone (record { place = Declarations; header = record { states = states; initial = initial; inputs = 0; outputs = 0 }; signals = st .signals })
-          → Starts st states initial room r
+      pub start-good : states * 32 ≤ room → (a : Automaton) → a ≡ header states initial 0 0 → (r : Advanced)
+          → r ≡ gone (record { place = Declarations; header = a; signals = st .signals }) → Starts st states initial room r
       unfolding started
-      start-good h r f = rw f (record {
+      start-good h a e r f = rw (f, e) (record {
         sound = record { fit = ok .fit; small = few; wide = h };
         means = λ m p cells l. simp (ne-eqb states 0 some, le-ltb 4096 states few, lt-leb states initial inside, l, le-ltb room (states * 32) h);
       })

@@ -64,34 +64,29 @@ fn start(st: State, states: usize, initial: usize, room: usize) -> Advanced
     let signals = st.signals;
     go(State {
         place: Place::Declarations,
-        header: Automaton {
-            states,
-            initial,
-            inputs: 0,
-            outputs: 0,
-        },
+        header: table::header(states, initial, 0, 0),
         signals,
     })
 }
 
-// The automaton with the signal in the list of its role.
+// Adds the signal to the list of its role.
 fn with_role(header: Automaton, role: Role, signal: usize) -> Automaton
     requires { ⌜ signal < 32 ⌝ }
     ensures { λ r. ⌜ r ≡ withRole role signal header ⌝ }
 {
     match role {
-        Role::Input => Automaton {
-            states: header.states,
-            initial: header.initial,
-            inputs: sets::insert(header.inputs, signal),
-            outputs: header.outputs,
-        },
-        Role::Output => Automaton {
-            states: header.states,
-            initial: header.initial,
-            inputs: header.inputs,
-            outputs: sets::insert(header.outputs, signal),
-        },
+        Role::Input => table::header(
+            header.states,
+            header.initial,
+            sets::insert(header.inputs, signal),
+            header.outputs,
+        ),
+        Role::Output => table::header(
+            header.states,
+            header.initial,
+            header.inputs,
+            sets::insert(header.outputs, signal),
+        ),
     }
 }
 

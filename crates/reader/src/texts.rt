@@ -15,20 +15,14 @@ use line::Line;
 use text::Place;
 use text::Spelling;
 use text::TextRefusal;
-use theory::Automaton;
 
-// The state before the first line.
+// Makes the state before the first line.
 fn fresh(signals: Signals) -> State
     ensures { λ r. ⌜ r ≡ freshState signals ⌝ }
 {
     State {
         place: Place::Head,
-        header: Automaton {
-            states: 0,
-            initial: 0,
-            inputs: 0,
-            outputs: 0,
-        },
+        header: table::header(0, 0, 0, 0),
         signals,
     }
 }

@@ -30,6 +30,9 @@ stop-requires-4 c κs = search needs
 returns-4 : tie.Need-returns-4
 returns-4 c = search (start-crowded, needs)
 
+header-requires : tie.Need-header-requires
+header-requires c κs = search needs
+
 go-requires : tie.Need-go-requires
 go-requires c κs = search needs
 
@@ -49,5 +52,6 @@ start-spec =
     mul-if4
     stop-requires-4
     returns-4
+    header-requires
     go-requires
     returns-5)
