@@ -13,6 +13,7 @@ use Rattle.moqresam.specs.declared.FitReply.{FitReply}
 use Rattle.moqresam.specs.declared.RefineReply.{RefineReply}
 use Rattle.moqresam.specs.declared.FollowReply.{FollowReply}
 
+-- The fields of a reply, from the status, the verdict and the rounds.
 abbrev pub fitWith : Status → Bool → ℕ → FitReply
 fitWith s c n = record {
   number = s .number;
@@ -29,6 +30,7 @@ abbrev pub fitReply : Compatibility → FitReply
 fitReply (compatibility.Decided c n) = fitWith acceptedStatus c n
 fitReply (compatibility.Refused r) = fitWith (statusOf r) false 0
 
+-- The fields of a reply, from the status and the verdict.
 abbrev pub refineWith : Status → Bool → RefineReply
 refineWith s v = record {
   number = s .number;
@@ -39,11 +41,12 @@ refineWith s v = record {
   «cell_signal» = s .action;
 }
 
--- Refinement: the same.
+-- Refinement: not refused, number and table are 0; refused, the verdict is no.
 abbrev pub refineReply : Refined → RefineReply
 refineReply (refined.Decided v) = refineWith acceptedStatus v
 refineReply (refined.Refused r) = refineWith (statusOf r) false
 
+-- The fields of a reply, from the status, whether the follower moved, and the state that it is in now.
 abbrev pub followWith : Status → Bool → ℕ → FollowReply
 followWith s m to = record {
   number = s .number;

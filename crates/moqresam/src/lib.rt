@@ -51,6 +51,7 @@ pub struct FollowReply {
     pub cell_signal: usize,
 }
 
+// Makes a reply of fit; the status says whether it is refused, and where.
 fn fit_with(s: Status, compatible: bool, rounds: usize) -> FitReply
     ensures { λ r. ⌜ r ≡ fitWith s compatible rounds ⌝ }
 {
@@ -65,6 +66,7 @@ fn fit_with(s: Status, compatible: bool, rounds: usize) -> FitReply
     }
 }
 
+// Makes a reply of refinement; the status says whether it is refused, and where.
 fn refine_with(s: Status, refines: bool) -> RefineReply
     ensures { λ r. ⌜ r ≡ refineWith s refines ⌝ }
 {
@@ -78,6 +80,7 @@ fn refine_with(s: Status, refines: bool) -> RefineReply
     }
 }
 
+// Makes a reply of the follower; the status says whether it is refused, and where.
 fn follow_with(s: Status, moved: bool, state: usize) -> FollowReply
     ensures { λ r. ⌜ r ≡ followWith s moved state ⌝ }
 {
@@ -92,6 +95,7 @@ fn follow_with(s: Status, moved: bool, state: usize) -> FollowReply
     }
 }
 
+// Turns the library's reply to fit into the one for C.
 fn fit_reply(c: Compatibility) -> FitReply
     ensures { λ r. ⌜ r ≡ fitReply c ⌝ }
 {
@@ -105,6 +109,7 @@ fn fit_reply(c: Compatibility) -> FitReply
     }
 }
 
+// Turns the library's reply to refinement into the one for C.
 fn refine_reply(c: Refined) -> RefineReply
     ensures { λ r. ⌜ r ≡ refineReply c ⌝ }
 {
@@ -114,6 +119,7 @@ fn refine_reply(c: Refined) -> RefineReply
     }
 }
 
+// Turns the library's reply of the follower at `state` into the one for C.
 fn follow_reply(state: usize, f: Followed) -> FollowReply
     ensures { λ r. ⌜ r ≡ monitorReply state f ⌝ }
 {
