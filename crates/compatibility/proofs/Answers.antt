@@ -18,7 +18,7 @@ use Rattle.search.specs.declared.Question.{Question}
 use Rattle.search.specs.Search.{pairRanks, rankedPairs, pairRounds, flagged}
 use Rattle.search.proofs.Meaning.{ranked-all, rounds-all, flags-are, verdict-is}
 use Rattle.compatibility.specs.declared.Compatibility.the-variants as compatibility
-use Rattle.compatibility.specs.Replies.{compatibilityQuestion, decidedOf}
+use Rattle.compatibility.specs.Contract.{compatibilityQuestion, decidedOf}
 use Rattle.compatibility.proofs.Laws.{ranks-are}
 
 -- The initial pair.

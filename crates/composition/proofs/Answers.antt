@@ -11,7 +11,7 @@ use Rattle.table.specs.Ready.{Ready}
 use Rattle.search.specs.declared.Question.{Question}
 use Rattle.search.specs.Search.{rankedPairs, pairRounds, flagged}
 use Rattle.product.specs.Kept.{keptFilled}
-use Rattle.compatibility.specs.Replies.{compatibilityQuestion}
+use Rattle.compatibility.specs.Contract.{compatibilityQuestion}
 use Rattle.compatibility.proofs.Answers.{decide-verdict, decide-rounds, decide-ranks}
 use Rattle.composition.specs.declared.Composition.the-variants as composed
 use Rattle.composition.proofs.Cells.{composition-cells}

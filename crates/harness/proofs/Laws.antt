@@ -4,7 +4,7 @@ use mathlib.Core.List.{List}
 use Prim.Native.Nat.{ℕ}
 use Rattle.emit.specs.Buffer.{stored}
 use Rattle.harness.specs.declared.replies.Reply.{Reply}
-use Rattle.harness.specs.Replies.{named}
+use Rattle.harness.specs.Contract.{named}
 
 -- The looked-up name s, of which the code has its own number.
 module _ (name s : List ℕ) (found : s ≡ name) where

@@ -5,7 +5,7 @@ use Prim.Native.Nat.{ℕ}
 use Rattle.theory.specs.declared.Automaton.{Automaton}
 use Rattle.table.specs.declared.Status.{Status}
 use Rattle.harness.specs.declared.replies.Reply.{Reply}
-use Rattle.harness.specs.Replies.{wholeReply}
+use Rattle.harness.specs.Contract.{wholeReply}
 
 -- What a reply says of a refusal and the numbers of its tables are made apart.
 pub made-of : (s t : Status) (line : ℕ) (verdict : Bool) (value : ℕ) (a a′ b b′ : Automaton) (x : Reply) → s ≡ t → a ≡ a′ → b ≡ b′

@@ -6,7 +6,7 @@ ghost use Rattle.table.specs.Contract.{mirrorReply, followReply};
 ghost use Rattle.reach.specs.Marks.{reachedMarks};
 ghost use Rattle.reach.specs.Ends.{endsIn};
 ghost use Rattle.table.specs.StepCounts.{stepsIn};
-ghost use Rattle.harness.specs.Replies.{judged, mirrored, followed};
+ghost use Rattle.harness.specs.Contract.{judged, mirrored, followed};
 ghost use Rattle.harness.specs.Tables.{tableOf};
 use crate::replies;
 use crate::replies::Reply;

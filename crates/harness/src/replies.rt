@@ -1,6 +1,6 @@
 // Puts the replies of all calls into one record, which the C ABI can hand back: for tests and benchmarks.
 ghost use mathlib.Core.Path.{_≡_};
-ghost use Rattle.harness.specs.Replies.{noTable, wholeReply, bareReply, refusedReply, headedReply, bothReply, judged as judgedReply, mirrored as mirroredReply, followed as followedReply, multiplied as multipliedReply, fitted as fittedReply, composed as composedReply, refined as refinedReply, synthesized as synthesizedReply, aloneRead, togetherRead, written as writtenReply};
+ghost use Rattle.harness.specs.Contract.{noTable, wholeReply, bareReply, refusedReply, headedReply, bothReply, judged as judgedReply, mirrored as mirroredReply, followed as followedReply, multiplied as multipliedReply, fitted as fittedReply, composed as composedReply, refined as refinedReply, synthesized as synthesizedReply, aloneRead, togetherRead, written as writtenReply};
 use compatibility::Compatibility;
 use composition::Built;
 use composition::Composition;

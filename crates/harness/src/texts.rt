@@ -12,7 +12,7 @@ ghost use Rattle.names.specs.Names.{texts};
 ghost use Rattle.writer.specs.Replies.{writerReply};
 ghost use Rattle.listing.specs.Listing.{listingText};
 ghost use Rattle.report.specs.Report.{reportText, reportBuffers};
-ghost use Rattle.harness.specs.Replies.{aloneRead, togetherRead, named, written};
+ghost use Rattle.harness.specs.Contract.{aloneRead, togetherRead, named, written};
 ghost use Rattle.harness.specs.Tables.{tableOf};
 use crate::replies;
 use crate::replies::Reply;

@@ -1,11 +1,11 @@
 // Calls on two tables: product, compatibility (document 01: fit), composition, refinement, synthesis (document 01: the sequencer maker).
 ghost use mathlib.Core.Path.{_≡_};
 ghost use lib.ListN.{length};
-ghost use Rattle.compatibility.specs.Replies.{compatibilityReply, compatibilityFlags};
-ghost use Rattle.composition.specs.Replies.{productReply, productCells, compositionReply, compositionCells, compositionFlags};
-ghost use Rattle.refinement.specs.Replies.{refinementReply, refinementMarks};
-ghost use Rattle.synthesis.specs.Replies.{synthesisReply, synthesisCells, synthesisFlags};
-ghost use Rattle.harness.specs.Replies.{multiplied, fitted, composed, refined, synthesized};
+ghost use Rattle.compatibility.specs.Contract.{compatibilityReply, compatibilityFlags};
+ghost use Rattle.composition.specs.Contract.{productReply, productCells, compositionReply, compositionCells, compositionFlags};
+ghost use Rattle.refinement.specs.Contract.{refinementReply, refinementMarks};
+ghost use Rattle.synthesis.specs.Contract.{synthesisReply, synthesisCells, synthesisFlags};
+ghost use Rattle.harness.specs.Contract.{multiplied, fitted, composed, refined, synthesized};
 ghost use Rattle.harness.specs.Tables.{tableOf};
 use crate::replies;
 use crate::replies::Reply;

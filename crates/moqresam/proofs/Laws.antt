@@ -14,7 +14,7 @@ use Rattle.refinement.specs.declared.Refined.the-variants as refined
 use Rattle.moqresam.specs.declared.FitReply.{FitReply}
 use Rattle.moqresam.specs.declared.RefineReply.{RefineReply}
 use Rattle.moqresam.specs.declared.FollowReply.{FollowReply}
-use Rattle.moqresam.specs.Replies.{fitWith, fitReply, refineWith, refineReply, followWith, monitorReply, stateAfter}
+use Rattle.moqresam.specs.Contract.{fitWith, fitReply, refineWith, refineReply, followWith, monitorReply, stateAfter}
 
 -- ---- a law for each case of a reply: s is what it says of a refusal
 

@@ -17,13 +17,13 @@ use Rattle.table.specs.Contract.{followReply}
 use Rattle.table.proofs.Meaning.{follow-located}
 use Rattle.compatibility.specs.declared.Compatibility.{Compatibility}
 use Rattle.compatibility.specs.declared.Compatibility.the-variants as compatibility
-use Rattle.compatibility.specs.Replies.{compatibilityReply}
+use Rattle.compatibility.specs.Contract.{compatibilityReply}
 use Rattle.compatibility.proofs.Meaning.{fit-located}
 use Rattle.refinement.specs.declared.Refined.{Refined}
 use Rattle.refinement.specs.declared.Refined.the-variants as refined
-use Rattle.refinement.specs.Replies.{refinementReply}
+use Rattle.refinement.specs.Contract.{refinementReply}
 use Rattle.refinement.proofs.Meaning.{refine-located}
-use Rattle.moqresam.specs.Replies.{fitReply, refineReply, monitorReply}
+use Rattle.moqresam.specs.Contract.{fitReply, refineReply, monitorReply}
 use Rattle.moqresam.specs.Places.{ofFit, ofRefine, ofFollow, Placed}
 
 -- Nothing is refused, so no cell is named.

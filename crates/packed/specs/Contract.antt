@@ -5,9 +5,9 @@ use Prim.Native.Nat.{ℕ}
 use lib.Dec.{leb}
 use Rattle.theory.specs.declared.Automaton.{Automaton}
 use Rattle.compatibility.specs.declared.Compatibility.{Compatibility}
-use Rattle.compatibility.specs.Replies.{compatibilityReply, compatibilityFlags}
+use Rattle.compatibility.specs.Contract.{compatibilityReply, compatibilityFlags}
 use Rattle.refinement.specs.declared.Refined.{Refined}
-use Rattle.refinement.specs.Replies.{refinementReply, refinementMarks}
+use Rattle.refinement.specs.Contract.{refinementReply, refinementMarks}
 use Rattle.packed.specs.Bytes.{byteTable}
 
 -- Both tables have at most 64 states, so that the smaller rooms hold their cells.

@@ -1,5 +1,5 @@
 use mathlib.Core.Path.{_∙_, ap}
-use Rattle.moqresam.specs.Replies.{fitReply}
+use Rattle.moqresam.specs.Contract.{fitReply}
 use borrow.Author.Needs.{needs}
 use Rattle.moqresam.proofs.moqresam_fit.Statement.{statement}
 use Rattle.moqresam.proofs.moqresam_fit.Tie as tie

@@ -1,5 +1,5 @@
 use mathlib.Core.Path.{_∙_, ap}
-use Rattle.moqresam.specs.Replies.{monitorReply}
+use Rattle.moqresam.specs.Contract.{monitorReply}
 use borrow.Author.Needs.{needs}
 use Rattle.moqresam.proofs.moqresam_follow.Statement.{statement}
 use Rattle.moqresam.proofs.moqresam_follow.Tie as tie

@@ -46,7 +46,7 @@ use denote.Signature.{plain}
 use Rattle.table.specs.declared.Followed.{Followed}
 use Rattle.table.specs.Contract.{followReply}
 use Rattle.packed.specs.Bytes.{tableOfBytes}
-use Rattle.moqresam.specs.Replies.{monitorReply}
+use Rattle.moqresam.specs.Contract.{monitorReply}
 use Rattle.moqresam.specs.declared.Follower.{Follower}
 use Rattle.moqresam.specs.declared.FollowReply.{FollowReply}
 use Rattle.moqresam.proofs.Laws.{reply-state}

@@ -1,5 +1,5 @@
 use mathlib.Core.Path.{_∙_, ap}
-use Rattle.moqresam.specs.Replies.{refineReply}
+use Rattle.moqresam.specs.Contract.{refineReply}
 use borrow.Author.Needs.{needs}
 use Rattle.moqresam.proofs.moqresam_refine.Statement.{statement}
 use Rattle.moqresam.proofs.moqresam_refine.Tie as tie

@@ -1,5 +1,5 @@
 use mathlib.Core.Path.{_∙_, ap}
-use Rattle.harness.specs.Replies.{followed}
+use Rattle.harness.specs.Contract.{followed}
 use borrow.Author.Needs.{needs}
 use Rattle.harness.proofs.one_table.harness_follow.Statement.{statement}
 use Rattle.harness.proofs.one_table.harness_follow.Tie as tie

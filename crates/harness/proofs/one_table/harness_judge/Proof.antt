@@ -1,5 +1,5 @@
 use mathlib.Core.Path.{_∙_, ap}
-use Rattle.harness.specs.Replies.{judged}
+use Rattle.harness.specs.Contract.{judged}
 use borrow.Author.Needs.{needs}
 use Rattle.harness.proofs.one_table.harness_judge.Statement.{statement}
 use Rattle.harness.proofs.one_table.harness_judge.Tie as tie

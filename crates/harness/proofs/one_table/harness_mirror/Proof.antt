@@ -1,5 +1,5 @@
 use mathlib.Core.Path.{_∙_, ap}
-use Rattle.harness.specs.Replies.{mirrored}
+use Rattle.harness.specs.Contract.{mirrored}
 use borrow.Author.Needs.{needs}
 use Rattle.harness.proofs.one_table.harness_mirror.Statement.{statement}
 use Rattle.harness.proofs.one_table.harness_mirror.Tie as tie

@@ -1,4 +1,4 @@
-use Rattle.harness.specs.Replies.{composed}
+use Rattle.harness.specs.Contract.{composed}
 use Rattle.harness.proofs.Records.{told}
 use borrow.Author.Needs.{needs}
 use Rattle.harness.proofs.replies.composed.Statement.{statement}

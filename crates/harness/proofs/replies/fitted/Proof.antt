@@ -1,4 +1,4 @@
-use Rattle.harness.specs.Replies.{fitted}
+use Rattle.harness.specs.Contract.{fitted}
 use Rattle.harness.proofs.Records.{told}
 use borrow.Author.Needs.{needs}
 use Rattle.harness.proofs.replies.fitted.Statement.{statement}

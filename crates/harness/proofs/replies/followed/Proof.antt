@@ -1,4 +1,4 @@
-use Rattle.harness.specs.Replies.{followed}
+use Rattle.harness.specs.Contract.{followed}
 use Rattle.harness.proofs.Records.{told-at}
 use borrow.Author.Needs.{needs}
 use Rattle.harness.proofs.replies.followed.Statement.{statement}

@@ -1,4 +1,4 @@
-use Rattle.harness.specs.Replies.{judged}
+use Rattle.harness.specs.Contract.{judged}
 use Rattle.harness.proofs.Records.{told}
 use borrow.Author.Needs.{needs}
 use Rattle.harness.proofs.replies.judged.Statement.{statement}

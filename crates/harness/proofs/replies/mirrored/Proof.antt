@@ -1,4 +1,4 @@
-use Rattle.harness.specs.Replies.{mirrored}
+use Rattle.harness.specs.Contract.{mirrored}
 use Rattle.harness.proofs.Records.{told}
 use borrow.Author.Needs.{needs}
 use Rattle.harness.proofs.replies.mirrored.Statement.{statement}

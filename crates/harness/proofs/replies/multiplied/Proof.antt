@@ -1,4 +1,4 @@
-use Rattle.harness.specs.Replies.{multiplied}
+use Rattle.harness.specs.Contract.{multiplied}
 use Rattle.harness.proofs.Records.{told}
 use borrow.Author.Needs.{needs}
 use Rattle.harness.proofs.replies.multiplied.Statement.{statement}

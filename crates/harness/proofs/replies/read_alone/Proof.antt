@@ -1,4 +1,4 @@
-use Rattle.harness.specs.Replies.{aloneRead}
+use Rattle.harness.specs.Contract.{aloneRead}
 use Rattle.harness.proofs.Records.{told}
 use borrow.Author.Needs.{needs}
 use Rattle.harness.proofs.replies.read_alone.Statement.{statement}

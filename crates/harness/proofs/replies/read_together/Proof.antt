@@ -1,4 +1,4 @@
-use Rattle.harness.specs.Replies.{togetherRead}
+use Rattle.harness.specs.Contract.{togetherRead}
 use Rattle.harness.proofs.Records.{told}
 use borrow.Author.Needs.{needs}
 use Rattle.harness.proofs.replies.read_together.Statement.{statement}

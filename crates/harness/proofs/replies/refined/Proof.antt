@@ -1,4 +1,4 @@
-use Rattle.harness.specs.Replies.{refined}
+use Rattle.harness.specs.Contract.{refined}
 use Rattle.harness.proofs.Records.{told}
 use borrow.Author.Needs.{needs}
 use Rattle.harness.proofs.replies.refined.Statement.{statement}

@@ -1,4 +1,4 @@
-use Rattle.harness.specs.Replies.{synthesized}
+use Rattle.harness.specs.Contract.{synthesized}
 use Rattle.harness.proofs.Records.{told}
 use borrow.Author.Needs.{needs}
 use Rattle.harness.proofs.replies.synthesized.Statement.{statement}

@@ -1,4 +1,4 @@
-use Rattle.harness.specs.Replies.{written}
+use Rattle.harness.specs.Contract.{written}
 use Rattle.harness.proofs.Records.{told}
 use borrow.Author.Needs.{needs}
 use Rattle.harness.proofs.replies.written.Statement.{statement}

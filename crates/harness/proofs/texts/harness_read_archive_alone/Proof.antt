@@ -1,5 +1,5 @@
 use mathlib.Core.Path.{_∙_, ap}
-use Rattle.harness.specs.Replies.{aloneRead}
+use Rattle.harness.specs.Contract.{aloneRead}
 use borrow.Author.Needs.{needs}
 use Rattle.harness.proofs.texts.harness_read_archive_alone.Statement.{statement}
 use Rattle.harness.proofs.texts.harness_read_archive_alone.Tie as tie

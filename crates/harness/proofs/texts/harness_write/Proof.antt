@@ -1,5 +1,5 @@
 use mathlib.Core.Path.{_∙_, ap}
-use Rattle.harness.specs.Replies.{written}
+use Rattle.harness.specs.Contract.{written}
 use borrow.Author.Needs.{needs}
 use Rattle.harness.proofs.texts.harness_write.Statement.{statement}
 use Rattle.harness.proofs.texts.harness_write.Tie as tie

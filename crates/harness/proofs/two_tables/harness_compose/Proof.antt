@@ -1,5 +1,5 @@
 use mathlib.Core.Path.{_∙_, ap}
-use Rattle.harness.specs.Replies.{composed}
+use Rattle.harness.specs.Contract.{composed}
 use borrow.Author.Needs.{needs}
 use Rattle.harness.proofs.two_tables.harness_compose.Statement.{statement}
 use Rattle.harness.proofs.two_tables.harness_compose.Tie as tie

@@ -1,5 +1,5 @@
 use mathlib.Core.Path.{_∙_, ap}
-use Rattle.harness.specs.Replies.{fitted}
+use Rattle.harness.specs.Contract.{fitted}
 use borrow.Author.Needs.{needs}
 use Rattle.harness.proofs.two_tables.harness_fit.Statement.{statement}
 use Rattle.harness.proofs.two_tables.harness_fit.Tie as tie

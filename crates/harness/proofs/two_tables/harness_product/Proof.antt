@@ -1,5 +1,5 @@
 use mathlib.Core.Path.{_∙_, ap}
-use Rattle.harness.specs.Replies.{multiplied}
+use Rattle.harness.specs.Contract.{multiplied}
 use borrow.Author.Needs.{needs}
 use Rattle.harness.proofs.two_tables.harness_product.Statement.{statement}
 use Rattle.harness.proofs.two_tables.harness_product.Tie as tie

@@ -1,5 +1,5 @@
 use mathlib.Core.Path.{_∙_, ap}
-use Rattle.harness.specs.Replies.{refined}
+use Rattle.harness.specs.Contract.{refined}
 use borrow.Author.Needs.{needs}
 use Rattle.harness.proofs.two_tables.harness_refine.Statement.{statement}
 use Rattle.harness.proofs.two_tables.harness_refine.Tie as tie

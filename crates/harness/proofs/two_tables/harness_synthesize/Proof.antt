@@ -1,5 +1,5 @@
 use mathlib.Core.Path.{_∙_, ap}
-use Rattle.harness.specs.Replies.{synthesized}
+use Rattle.harness.specs.Contract.{synthesized}
 use borrow.Author.Needs.{needs}
 use Rattle.harness.proofs.two_tables.harness_synthesize.Statement.{statement}
 use Rattle.harness.proofs.two_tables.harness_synthesize.Tie as tie

@@ -1,6 +1,6 @@
 use denote.Ref.{now}
 use lib.ListN.{length}
-use Rattle.compatibility.specs.Replies.{compatibilityReply, compatibilityFlags}
+use Rattle.compatibility.specs.Contract.{compatibilityReply, compatibilityFlags}
 use Rattle.packed.proofs.Rooms.{room-4096, in-rooms}
 use borrow.Author.Needs.{needs}
 use Rattle.packed.proofs.two_tables.fit_4096.Statement.{statement}

@@ -1,6 +1,6 @@
 use denote.Ref.{now}
 use lib.ListN.{length}
-use Rattle.refinement.specs.Replies.{refinementReply, refinementMarks}
+use Rattle.refinement.specs.Contract.{refinementReply, refinementMarks}
 use Rattle.packed.proofs.Rooms.{room-4096, in-rooms}
 use borrow.Author.Needs.{needs}
 use Rattle.packed.proofs.two_tables.refine_4096.Statement.{statement}
