@@ -8,12 +8,12 @@ use native.Mathlib.Decide.{ℕ-discrete}
 use lib.Count.{trailingZeros}
 use lib.Dec.{T, eqb}
 use borrow.Author.Tests.{eq-eqb, ne-eqb}
+use Rattle.theory.proofs.Tests.{is-true, is-false}
 use Rattle.theory.specs.Sets.{has}
 use Rattle.sets.proofs.Members.{has-none}
 use Rattle.sets.proofs.Visit.{low}
 use Rattle.text.specs.Writing.{those}
 use Rattle.text.proofs.Ascending.{those-none}
-use Rattle.text.proofs.Entries.{is-true, is-false}
 
 pub those-same : (f g : ℕ → Bool) (i n : ℕ) → ((a : ℕ) → i ≤ a → a < i + n → f a ≡ g a) → those f i n ≡ those g i n
 unfolding those
