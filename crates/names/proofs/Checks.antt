@@ -15,7 +15,8 @@ use Rattle.theory.specs.Table.{declaredSet, Table, table}
 use Rattle.theory.specs.Checks.{first, refuse, declared}
 use Rattle.theory.proofs.Bounded.{any-cong}
 use Rattle.theory.proofs.Checks.{passed-first}
-use Rattle.theory.proofs.Sets.{member-or, has-member}
+use Rattle.theory.proofs.Sets.{has-member}
+use Rattle.theory.proofs.Table.{declared-set}
 use Rattle.text.specs.declared.Spelling.{Spelling}
 use Rattle.text.specs.declared.Spelling.the-variants.{Exact, Folded}
 use Rattle.text.specs.Fields.{nameOk}
@@ -24,9 +25,9 @@ use Rattle.names.specs.Names.{anyOf, repeated, Named, nameChecks}
 use Rattle.tokens.proofs.Names.{name-short}
 use Rattle.names.proofs.Names.{named-all, exact-none}
 
--- The declared signals are the members of both lists' union.
+-- The declared signals are the members of the set that code takes them from.
 pub declared-has : (a : Automaton) (cells : List ℕ) (x : ℕ) → x < 32 → declared (table a cells) x ≡ has (declaredSet a) x
-declared-has a cells x h = sym (member-or (a .inputs) (a .outputs) x) ∙ has-member (declaredSet a) x h
+declared-has a cells x h = sym (declared-set (table a cells) x) ∙ has-member (declaredSet a) x h
 
 module _ (a : Automaton) (name : List ℕ) (names : List (List ℕ)) where
   abbrev acts : ℕ

@@ -1,4 +1,4 @@
-// The monitor (document 01: follower) of tables whose cells are bytes, as a C program holds them.
+// The calls of the C archive on tables whose cells are bytes, as a C program holds them: the monitor (document 01: follower), fit and refinement.
 ghost use mathlib.Core.Path.{_≡_};
 ghost use Rattle.table.specs.Contract.{followReply};
 ghost use Rattle.packed.specs.Bytes.{byteTable};

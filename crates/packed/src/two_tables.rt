@@ -9,7 +9,7 @@ use compatibility::Compatibility;
 use refinement::Refined;
 use theory::Automaton;
 
-// Whether both tables have at most 64 states.
+// Tells whether both tables have at most 64 states.
 fn are_small(a: Automaton, b: Automaton) -> bool
     ensures { λ r. ⌜ r ≡ small a b ⌝ }
 {

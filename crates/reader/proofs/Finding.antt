@@ -2,7 +2,7 @@
 use mathlib.Core.Path.{_≡_, sym, subst, ap, _∙_}
 use mathlib.Core.Logic.{inl, inr}
 use mathlib.Core.Bool.{Bool, true, false, not, _||_}
-use mathlib.Core.List.{List}
+use mathlib.Core.List.{List, []}
 use Prim.Native.Nat.{ℕ, _+_}
 use native.Mathlib.Omega.{arith}
 use lib.Dec.{T}
@@ -10,10 +10,11 @@ use lib.ListN.{length, getD, length-append}
 use lib.Bits.{bitOr}
 use borrow.Author.Tests.{not-true, not-false}
 use Rattle.theory.specs.declared.Automaton.{Automaton}
-use Rattle.theory.specs.Table.{declaredSet, member}
+use Rattle.theory.specs.Table.{declaredSet, member, table}
 use Rattle.theory.proofs.Sets.{member-or}
 use Rattle.theory.proofs.Filled.{any-default}
 use Rattle.theory.proofs.Tests.{or-cases}
+use Rattle.theory.proofs.Table.{declared-set}
 use Rattle.text.specs.declared.Spelling.{Spelling}
 use Rattle.text.specs.Reading.{readAlone, readBoth}
 use Rattle.text.specs.Lookup.{nobody}
@@ -44,7 +45,7 @@ place-held m p s a held d n here b f =
 pub declared-of : (a b : Automaton) (s d e : ℕ) (r : Bool) → d ≡ declaredSet a → e ≡ declaredSet b
     → r ≡ member (bitOr d e) s → r ≡ (isDeclared a s || isDeclared b s)
 declared-of a b s d e r f g h =
-    h ∙ member-or d e s ∙ rw (f, g, member-or (a .inputs) (a .outputs) s, member-or (b .inputs) (b .outputs) s)
+    h ∙ member-or d e s ∙ rw (f, g, declared-set (table a []) s, declared-set (table b []) s)
 
 module _ (m p : List ℕ) (c : Spelling) (room room′ : ℕ) (t : Both) (cells cells′ : List ℕ) (read : ReadsBoth m p c room room′ t cells cells′) (a : ℕ) (r : Found) where
   pub found-refused : t .refused ≡ true → r ≡ placed nobody (t .refusal .number) → r ≡ foundIn (readBoth c room m room′ p) a

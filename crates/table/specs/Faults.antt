@@ -12,7 +12,7 @@ use Rattle.table.specs.declared.faults.Walked.{Walked}
 use Rattle.table.specs.declared.faults.Finding.{Finding}
 use Rattle.table.specs.declared.faults.Finding.the-variants.{Fault, Nothing}
 
--- A cell of n states is at fault by check 5 (false) or by check 6 (true); acts has the actions of both lists.
+-- A cell of n states is at fault by check 5 (false) or by check 6 (true); acts has the declared actions.
 abbrev pub fault : Bool → ℕ → ℕ → ℕ → ℕ → Bool
 fault false n acts cell a = stray n cell
 fault true n acts cell a = ltb cell n && not (member acts a)

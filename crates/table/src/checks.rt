@@ -16,7 +16,7 @@ use crate::refusals;
 use theory::Automaton;
 use theory::Checked;
 
-// Whether an action is in both sets: then what they have in common has members.
+// Tells whether an action is in both sets: then what they have in common has members.
 fn overlap(s: u32, t: u32) -> bool
     ensures { λ r. ⌜ r ≡ any 32 (λ (a : ℕ). member s a && member t a) ⌝ }
 {

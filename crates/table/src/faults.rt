@@ -19,14 +19,14 @@ struct Walked {
     row: usize,
 }
 
-// Whether the cell is neither 65,535 nor below the limit: 65,535 and 1 wrap to 0, and one comparison says both.
+// Tells whether the cell is neither 65,535 nor below the limit: 65,535 and 1 wrap to 0, and one comparison says both.
 fn stray(cell: u16, limit: u16) -> bool
     ensures { λ r. ⌜ r ≡ strayOf limit cell ⌝ }
 {
     limit < std::num::wrapping_add_u16(cell, 1)
 }
 
-// Whether a cell is at fault: by check 5, or by check 6 if `six`. `acts` has the actions of both lists. Check 5 does not call `stray`: sharing a sum with
+// Tells whether a cell is at fault: by check 5, or by check 6 if `six`. `acts` has the declared actions. Check 5 does not call `stray`: sharing a sum with
 // the row test, it would cost every row an instruction more.
 fn fault(six: bool, cell: u16, states: u16, acts: u32, action: usize) -> bool
     ensures { λ r. ⌜ r ≡ faultOf six states acts cell action ⌝ }
@@ -43,7 +43,7 @@ fn fault(six: bool, cell: u16, states: u16, acts: u32, action: usize) -> bool
     states <= cell
 }
 
-// Exclusive upper bound of a step by the action: the number of states, or 0 where the action is in neither list.
+// Exclusive upper bound of a step by the action: the number of states, or 0 where the action is not declared.
 fn limit(states: u16, acts: u32, action: usize) -> u16
     ensures { λ r. ⌜ r ≡ limitOf states acts action ⌝ }
 {
@@ -64,7 +64,7 @@ fn limits(states: u16, acts: u32) -> [u16; 32]
     below
 }
 
-// Whether a cell of the row is at fault by either check. No test leaves the row, so that the compiler compares many cells at once.
+// Tells whether a cell of the row is at fault by either check. No test leaves the row, so that the compiler compares many cells at once.
 fn is_row_faulty(cells: &[u16], row: usize, below: &[u16]) -> bool
     requires { ⌜ row < length (now cells) / 32 ⌝ }
     requires { ⌜ length (now below) ≡ 32 ⌝ }
@@ -113,7 +113,7 @@ fn walk(six: bool, cells: &[u16], states: u16, acts: u32, below: &[u16], start: 
     Walked { at, row: noted }
 }
 
-// Finds the first cell at fault by check 5, or else the first by check 6, among whole rows of 32 cells; `acts` has the actions of both lists. A
+// Finds the first cell at fault by check 5, or else the first by check 6, among whole rows of 32 cells; `acts` has the declared actions. A
 // sound table takes one pass: the walk for check 5 notes the first row at fault by either check, and check 6 begins there.
 pub fn find(cells: &[u16], states: u16, acts: u32) -> Finding
     ensures { λ r. ⌜ r ≡ firstFault states acts (now (cells .entry)) ⌝ }

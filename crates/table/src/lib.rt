@@ -17,7 +17,6 @@ mod monitor;
 mod refusals;
 mod sizes;
 
-pub use checks::check;
 pub use checks::check_composable;
 pub use checks::check_each;
 pub use checks::check_refinement;

@@ -33,7 +33,7 @@ pub fn refuse(number: u32, table: u32) -> Checked
     Checked::Refused(refusal(number, table))
 }
 
-// Turns a call away by a number from 1 to 6, and names the cell with this index.
+// Refuses a call by a number from 1 to 6, and names the cell with this index.
 pub fn refuse_cell(number: u32, table: u32, cell: usize) -> Checked
     ensures { λ r. ⌜ r ≡ refusedAt number table (cellOf cell) ⌝ }
 {
@@ -44,7 +44,7 @@ pub fn refuse_cell(number: u32, table: u32, cell: usize) -> Checked
     Checked::Refused(refusal_at(number, table, location))
 }
 
-// Turns a call away by a number from 1 to 4: they are of no cell in particular, and name state 0 and action 0 (document 02, S-2).
+// Refuses a call by a number from 1 to 4: they are of no cell in particular, and name state 0 and action 0 (document 02, S-2).
 pub fn refuse_table(number: u32, table: u32) -> Checked
     ensures { λ r. ⌜ r ≡ refusedAt number table (Cell 0 0) ⌝ }
 {

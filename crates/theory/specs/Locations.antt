@@ -15,7 +15,7 @@ use Rattle.theory.specs.Checks.{declared}
 abbrev pub Stray : Table → ℕ → ℕ → Type 0
 Stray t s a = (¬ (cellAt t s a ≡ 65535)) × (t .header .states ≤ cellAt t s a)
 
--- A cell is bad by 6: it holds a step for a signal in neither list.
+-- A cell is bad by 6: it holds a step for a signal in none of its lists.
 abbrev pub Undeclared : Table → ℕ → ℕ → Type 0
 Undeclared t s a = (cellAt t s a < t .header .states) × (¬ T (declared t a))
 

@@ -11,8 +11,8 @@ use Rattle.theory.specs.declared.Location.the-variants.{Nowhere}
 use Rattle.theory.specs.declared.Refusal.{Refusal}
 use Rattle.theory.specs.declared.Checked.{Checked}
 use Rattle.theory.specs.declared.Checked.the-variants.{Accepted, Refused}
-use Rattle.theory.specs.Table.{declaredSet, Table, table}
-use Rattle.theory.specs.Checks.{first, unlessRefused, tableChecks}
+use Rattle.theory.specs.Table.{declaredSet, Table}
+use Rattle.theory.specs.Checks.{first, unlessRefused, tableChecks, refusal}
 use Rattle.theory.specs.Valid.{Valid}
 use Rattle.theory.proofs.Checks.{first-refused, first-accepted, first-part, checks-valid}
 use Rattle.text.specs.Writing.{wholeText, textLength, writerChecks, writerBytes}
@@ -54,7 +54,7 @@ module _ (t : Table) (name : List ℕ) (names : List (List ℕ)) where
     -- The call is refused by 23, and the lent bytes are as they were.
     abbrev Refuses : Type 0
     Refuses =
-        (r : Refusal) → r ≡ record { number = 23; table = 0; location = Nowhere }
+        (r : Refusal) → r ≡ refusal 23 0 Nowhere
         → (reply.Refused r ≡ printReply t name names (length out)) × (out ≡ printBytes t name names out)
 
     long : ltb (length out) (textLength t name names) || ltb 65536 (textLength t name names) ≡ true → Refuses

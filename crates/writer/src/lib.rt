@@ -25,7 +25,7 @@ pub enum Printed {
 fn check(a: Automaton, cells: &[u16], name: &[u8], names: &[&[u8]]) -> Checked
     ensures { λ r. ⌜ r ≡ first (checksBefore (table a (now (cells .entry))) (now (name .entry)) (texts (now (names .entry)))) ⌝ }
 {
-    let checked = table::check(a, cells, 1);
+    let checked = table::judge(a, cells);
     let Checked::Accepted = checked else {
         return checked;
     };

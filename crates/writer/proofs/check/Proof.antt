@@ -3,8 +3,8 @@ use borrow.Author.Needs.{needs}
 use Rattle.writer.proofs.check.Statement.{statement}
 use Rattle.writer.proofs.check.Tie as tie
 
-check-requires : tie.Need-check-requires
-check-requires c κs = search needs
+judge-requires : tie.Need-judge-requires
+judge-requires c κs = search needs
 
 enum-told : tie.Need-enum-told
 enum-told c = search needs
@@ -15,8 +15,8 @@ enum-told-2 c = search needs
 returns : tie.Need-returns
 returns c = search (before-refused, needs)
 
-check-requires-2 : tie.Need-check-requires-2
-check-requires-2 c κs = search needs
+check-requires : tie.Need-check-requires
+check-requires c κs = search needs
 
 returns-2 : tie.Need-returns-2
 returns-2 c = search (before-accepted, needs)
@@ -24,4 +24,4 @@ returns-2 c = search (before-accepted, needs)
 pub check-spec : {M : Type 1} → statement M
 check-spec =
     tie.close
-    (tie.spec check-requires enum-told enum-told-2 returns check-requires-2 returns-2)
+    (tie.spec judge-requires enum-told enum-told-2 returns check-requires returns-2)
