@@ -3,14 +3,13 @@ use mathlib.Core.Path.{_≡_, refl, sym, subst}
 use mathlib.Core.Logic.{_⊎_, inl, inr}
 use mathlib.Core.Bool.{not, _&&_, _||_}
 use Prim.Native.Nat.{ℕ}
-use lib.Dec.{T, T-not}
-use Rattle.theory.specs.Interface.{InterfaceAutomaton, action, product, compose, Moves, steps, stays, Joint, Illegal, of-first, of-second, Incompatible, here, there, CompatiblePair, Compatible, RefinesBy, Deterministic}
+use lib.Dec.{T}
+use Rattle.theory.specs.Interface.{InterfaceAutomaton, sent, action, product, compose, Moves, steps, stays, Joint, Illegal, of-first, of-second, Incompatible, here, there, CompatiblePair, Compatible, RefinesBy, Deterministic}
 use Rattle.theory.specs.Numbered.{WellFormed}
 use Rattle.theory.specs.Table.{Table, automaton}
 use Rattle.theory.specs.Valid.{Valid}
 use Rattle.theory.specs.Substitution.{SameLists, Holds, interfaceOf, SubstitutionLaws}
-use Rattle.theory.proofs.Tests.{or-cases, or-left, and-right}
-use Rattle.theory.proofs.Steps.{out-action, out-sent, sent-out, kinds, same-action, Stable, step-of, compatible-on, second-accepts, first-accepts, compose-deterministic}
+use Rattle.theory.proofs.Steps.{out-action, out-sent, sent-out, kinds, same-action, sent-cases, first-sent, taken-unsent, in-concern, Stable, step-of, compatible-on, second-accepts, first-accepts, compose-deterministic}
 use Rattle.theory.proofs.Simulation.{match-input, match-output, matching, reflexive, transitive}
 use Rattle.theory.proofs.Numbering.{numbered-deterministic, numbered-stable}
 use Rattle.theory.proofs.Decided.{by-test, decided, compositions-decided}
@@ -47,24 +46,28 @@ module _ (X Y Z : InterfaceAutomaton) (cY : Stable Y) (cZ : Stable Z) (same : Sa
   same-outputs : (a : ℕ) → (X .output a || Z .output a) ≡ (Y .output a || Z .output a)
   same-outputs a i = same .outputs a i || Z .output a
 
+  -- What X and Z send, Y and Z send.
+  sent-too : (a : ℕ) → T (sent (product X Z) a) → T (sent (product Y Z) a)
+  sent-too a t = out-sent (product Y Z) a (subst T (same-outputs a) (sent-out (product X Z) a t))
+
   -- An output step of X beside Z is matched by Y, where the pair of Y is compatible: what Z sends and X takes, Y takes too.
-  match-sent : {x x′ : X .State} {y : Y .State} {z z′ : Z .State} (a : ℕ) → ρ x y → CompatiblePair Y Z (y, z) → T (X .output a || Z .output a)
+  match-sent : {x x′ : X .State} {y : Y .State} {z z′ : Z .State} (a : ℕ) → ρ x y → CompatiblePair Y Z (y, z) → T (sent (product X Z) a)
       → Joint X Z (x, z) a (x′, z′) → (y′ : Y .State) × Joint Y Z (y, z) a (y′, z′) × ρ x′ y′
   match-sent {x} {x′} {y} {z} {z′} a h k t j = go (j .first)
     where
-      sent : T (action X a) → T (X .output a) ⊎ (T (Y .input a) × T (Z .output a))
-      sent s = elim (or-cases (X .output a) (Z .output a) t) [
-        | inl o ↦ inl o
-        | inr o ↦ elim (kinds X a s) [ inl i ↦ inr (subst T (same .inputs a) i, o) | inr u ↦ inl (sent-out X a u) ]
+      sender : T (action X a) → T (X .output a) ⊎ (T (Y .input a) × T (Z .output a))
+      sender s = elim (sent-cases X Z a t) [
+        | inl u ↦ inl (sent-out X a u)
+        | inr v ↦ elim (kinds X a s) [ inl i ↦ inr (subst T (same .inputs a) i, sent-out Z a v) | inr u ↦ inl (sent-out X a u) ]
       ]
 
       go : Moves X a x x′ → (y′ : Y .State) × Joint Y Z (y, z) a (y′, z′) × ρ x′ y′
       go (stays n e) = (y, joint-stay same a j n refl, subst (λ u. ρ u y) e h)
-      go (steps s m) = elim (sent s) [
+      go (steps s m) = elim (sender s) [
         | inl o ↦ let (y′, n, h′) = match-output (ref .simulation) a h o m in (y′, joint-step same a j s n, h′)
         | inr (i, o) ↦
             let (y′, n) = first-accepts Y Z a cY k o i (z′, step-of (out-action Z a o) (j .second)) in
-            (y′, joint-step same a j s n, ref .simulation .successors x x′ y y′ h a (or-left (Y .input a) (X .output a) i) m n)
+            (y′, joint-step same a j s n, ref .simulation .successors x x′ y y′ h a (in-concern X Y a i) m n)
       ]
 
   -- Where (y, z) is compatible and x is related to y, (x, z) is not illegal.
@@ -80,21 +83,19 @@ module _ (X Y Z : InterfaceAutomaton) (cY : Stable Y) (cZ : Stable Z) (same : Sa
   incompatible-too : (s : X .State × Z .State) → Incompatible X Z s → (y : Y .State) → ρ (s .0) y → ¬ CompatiblePair Y Z (y, s .1)
   incompatible-too s (here i) y h k = legal h k i
   incompatible-too s (there {t = t} a e d) y h k =
-      let o : T (X .output a || Z .output a) = sent-out (product X Z) a (e .sends) in
-      let (y′, j, h′) = match-sent a h k o (e .joint) in
-      incompatible-too t d y′ h′ (compatible-on Y Z a k (out-sent (product Y Z) a (subst T (same-outputs a) o)) j)
+      let (y′, j, h′) = match-sent a h k (e .sends) (e .joint) in
+      incompatible-too t d y′ h′ (compatible-on Y Z a k (sent-too a (e .sends)) j)
 
   pub replaces-compatible : Compatible Y Z → Compatible X Z
   replaces-compatible fit d = incompatible-too (X .initial, Z .initial) d (Y .initial) (ref .initials) fit
 
   -- An input step of Y beside Z is matched by X.
-  match-taken : {x : X .State} {y y′ : Y .State} {z z′ : Z .State} (a : ℕ) → ρ x y → T (not (Y .output a || Z .output a))
+  match-taken : {x : X .State} {y y′ : Y .State} {z z′ : Z .State} (a : ℕ) → ρ x y → ¬ T (sent (product Y Z) a)
       → Joint Y Z (y, z) a (y′, z′) → (x′ : X .State) × Joint X Z (x, z) a (x′, z′) × ρ x′ y′
   match-taken {x} {y} {y′} {z} {z′} a h n j = go (j .first)
     where
       taken : T (action Y a) → T (Y .input a)
-      taken s = elim (kinds Y a s)
-          [ inl i ↦ i | inr u ↦ absurd (T-not (Y .output a || Z .output a) n (or-left (Y .output a) (Z .output a) (sent-out Y a u))) ]
+      taken s = elim (kinds Y a s) [ inl i ↦ i | inr u ↦ absurd (n (first-sent Y Z a u)) ]
 
       go : Moves Y a y y′ → (x′ : X .State) × Joint X Z (x, z) a (x′, z′) × ρ x′ y′
       go (stays u e) = (x, joint-stay (same-lists-sym same) a j u refl, subst (λ u. ρ x u) e h)
@@ -113,14 +114,15 @@ module _ (X Y Z : InterfaceAutomaton) (cY : Stable Y) (cZ : Stable Z) (same : Sa
     simulation = matching (compose-deterministic X Z dX dZ) (compose-deterministic Y Z dY dZ) (record {
       inputs = λ s t t′ h a i m.
           let j : Joint Y Z (t .0, s .1) a t′ = subst (λ u. Joint Y Z (t .0, u) a t′) (sym (h .0)) (m .joint) in
-          let (x′, j′, h′) = match-taken a (h .1) (and-right (Y .input a || Z .input a) (not (Y .output a || Z .output a)) i) j in (
+          let (x′, j′, h′) = match-taken a (h .1) (taken-unsent Y Z a i) j in (
             (x′, t′ .1),
             record { joint = j′; source = λ d. incompatible-too s d (t .0) (h .1) (h .2); target = λ d. incompatible-too (x′, t′ .1) d (t′ .0) h′ (m .target) },
             (refl, h′, m .target),
           );
       outputs = λ s s′ t h a o m.
-          let (y′, j′, h′) = match-sent a (h .1) (h .2) o (m .joint) in
-          let k′ : CompatiblePair Y Z (y′, s′ .1) = compatible-on Y Z a (h .2) (out-sent (product Y Z) a (subst T (same-outputs a) o)) j′ in (
+          let u : T (sent (product X Z) a) = out-sent (product X Z) a o in
+          let (y′, j′, h′) = match-sent a (h .1) (h .2) u (m .joint) in
+          let k′ : CompatiblePair Y Z (y′, s′ .1) = compatible-on Y Z a (h .2) (sent-too a u) j′ in (
             (y′, s′ .1),
             record { joint = subst (λ u. Joint Y Z (t .0, u) a (y′, s′ .1)) (h .0) j′; source = subst (λ u. CompatiblePair Y Z (t .0, u)) (h .0) (h .2); target = k′ },
             (refl, h′, k′),
