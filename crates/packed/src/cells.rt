@@ -25,11 +25,15 @@ pub fn count(states: usize, bytes: usize) -> usize
     states * 32
 }
 
-// Reads the cell at index k.
+// Reads the cell at index k. The test never fires: without it the compiler makes one call of memcpy of the loop that unpacks a table, and the
+// archive promises to need memset alone.
 pub fn at(bytes: &[u8], k: usize) -> u16
     requires { ⌜ k < length (now bytes) / 2 ⌝ }
     ensures { λ r. ⌜ r ≡ cellIn (now (bytes .entry)) k ⌝ }
 {
+    if bytes.len() / 2 <= k {
+        return 65535;
+    }
     join(bytes[2 * k], bytes[2 * k + 1])
 }
 
