@@ -8,9 +8,9 @@ ghost use Rattle.text.specs.Lookup.{lookup, lookupNumber, lookupAlone, lookupNu
 ghost use Rattle.text.specs.Writing.{writerBytes};
 ghost use Rattle.reader.specs.Replies.{aloneReply, togetherReply};
 ghost use Rattle.emit.specs.Buffer.{after, stored};
-ghost use Rattle.names.specs.Names.{texts};
+ghost use Rattle.names.specs.Lent.{texts};
 ghost use Rattle.writer.specs.Replies.{writerReply};
-ghost use Rattle.listing.specs.Listing.{listingText};
+ghost use Rattle.report.specs.Listing.{listingText};
 ghost use Rattle.report.specs.Report.{reportText, reportBuffers};
 ghost use Rattle.harness.specs.Contract.{aloneRead, togetherRead, named, written};
 ghost use Rattle.harness.specs.Tables.{tableOf};
@@ -81,8 +81,8 @@ pub extern "C" fn harness_name<'a>(m: &'a [u8], p: &'a [u8], signal: usize, out:
     ensures { λ r. ⌜ now (out .exit) ≡ stored (now (out .entry)) 0 (lookup Folded (now (m .entry)) (now (p .entry)) signal .name) ⌝ }
 {
     tell(
-        lookup::name(m, p, signal),
-        lookup::number(m, p, signal),
+        reader::name(m, p, signal),
+        reader::number(m, p, signal),
         out,
     )
 }
@@ -94,8 +94,8 @@ pub extern "C" fn harness_name_alone(m: &[u8], signal: usize, out: &mut [u8]) ->
     ensures { λ r. ⌜ now (out .exit) ≡ stored (now (out .entry)) 0 (lookupAlone Folded (now (m .entry)) signal .name) ⌝ }
 {
     tell(
-        lookup::name_alone(m, signal),
-        lookup::number_alone(m, signal),
+        reader::name_alone(m, signal),
+        reader::number_alone(m, signal),
         out,
     )
 }
@@ -112,8 +112,8 @@ pub extern "C" fn harness_archive_name<'a>(
     ensures { λ r. ⌜ now (out .exit) ≡ stored (now (out .entry)) 0 (lookup Exact (now (m .entry)) (now (p .entry)) signal .name) ⌝ }
 {
     tell(
-        lookup::archive_name(m, p, signal),
-        lookup::archive_number(m, p, signal),
+        reader::archive_name(m, p, signal),
+        reader::archive_number(m, p, signal),
         out,
     )
 }
@@ -125,8 +125,8 @@ pub extern "C" fn harness_archive_name_alone(m: &[u8], signal: usize, out: &mut 
     ensures { λ r. ⌜ now (out .exit) ≡ stored (now (out .entry)) 0 (lookupAlone Exact (now (m .entry)) signal .name) ⌝ }
 {
     tell(
-        lookup::archive_name_alone(m, signal),
-        lookup::archive_number_alone(m, signal),
+        reader::archive_name_alone(m, signal),
+        reader::archive_number_alone(m, signal),
         out,
     )
 }
@@ -184,5 +184,5 @@ pub extern "C" fn harness_list<'a>(
     ensures { λ r. ⌜ now (cp .exit) ≡ cellsSecond (length (now (cp .entry))) (readBoth Exact (length (now (cm .entry))) (now (m .entry)) (length (now (cp .entry))) (now (p .entry))) ⌝ }
     ensures { λ r. ⌜ r ≤ 768 ⌝ }
 {
-    listing::list(m, p, cm, cp, out)
+    report::list(m, p, cm, cp, out)
 }

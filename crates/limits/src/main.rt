@@ -91,7 +91,7 @@ fn read(call: &[u8], bytes: usize) {
     let text =
         b"table\tt\t1\t0\nin\ta\nin\tb\nin\tc\nin\td\nin\te\nin\tf\nin\tg\nin\th\nin\ti\nin\tj\nin\tk\nin\tl\nin\tm\nin\tn\nin\to\nin\tp\nin\tq\nin\tr\nin\ts\nin\tt\nin\tu\nin\tv\nin\tw\nin\tx\nin\ty\nin\tz\nin\t0\nin\t1\nin\t2\nin\t3\nin\t4\nin\t5\nin\t6\n";
     let mut cells = [7u16; 32];
-    match reader::read_alone(scan::before(text, bytes), &mut cells) {
+    match reader::read_alone(lines::before(text, bytes), &mut cells) {
         Alone::Table(_) => report(call, 0),
         Alone::Refused(r) => report(call, r.number),
     }

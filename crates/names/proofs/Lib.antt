@@ -1,3 +1,4 @@
+pub mod Places
 pub mod Listed
-pub mod Names
+pub mod Lent
 pub mod Checks

@@ -22,11 +22,11 @@ use Rattle.text.specs.declared.Role.the-variants.{Input, Output}
 use Rattle.text.specs.Reading.{firstMatch, indexOf, withRole, started, declaring, stepping}
 use Rattle.text.proofs.Names.{index-le}
 use Rattle.text.proofs.Accepted.{with-states}
-use Rattle.signals.specs.declared.Name.{Name}
+use Rattle.names.specs.declared.Name.{Name}
 use Rattle.reader.specs.declared.state.Signals.{Signals}
 use Rattle.reader.specs.declared.state.State.{State}
 use Rattle.reader.specs.declared.entries.Advanced.{Advanced}
-use Rattle.signals.specs.Names.{nameAt, isDeclared}
+use Rattle.names.specs.Places.{nameAt, isDeclared}
 use Rattle.reader.specs.State.{signalsOf, Fit, Addable, Added, lacking, halted, gone, Sound, Putable, Starts, Declares, Steps}
 use Rattle.reader.proofs.Names.{signals-length}
 

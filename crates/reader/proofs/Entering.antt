@@ -11,15 +11,15 @@ use Rattle.text.specs.declared.Role.{Role}
 use Rattle.text.specs.declared.Spelling.{Spelling}
 use Rattle.text.specs.Lines.{roleWord}
 use Rattle.text.specs.Reading.{textOf, entered}
-use Rattle.line.specs.declared.Record.{Record}
-use Rattle.line.specs.declared.Record.the-variants.{Table, Declaration, Step}
-use Rattle.line.specs.declared.Parsed.the-variants.{Fields}
-use Rattle.tokens.proofs.Names.{name-short}
-use Rattle.line.proofs.Meaning.{DeclarationReply, StepReply, table-reply, declaration-reply, step-reply}
+use Rattle.lines.specs.declared.Record.{Record}
+use Rattle.lines.specs.declared.Record.the-variants.{Table, Declaration, Step}
+use Rattle.lines.specs.declared.Parsed.the-variants.{Fields}
+use Rattle.lines.proofs.NameRule.{name-short}
+use Rattle.lines.proofs.Meaning.{DeclarationReply, StepReply, table-reply, declaration-reply, step-reply}
 use Rattle.reader.specs.declared.state.State.{State}
 use Rattle.reader.specs.declared.entries.Advanced.{Advanced}
-use Rattle.signals.specs.declared.Name.{Name}
-use Rattle.signals.specs.Names.{nameAt}
+use Rattle.names.specs.declared.Name.{Name}
+use Rattle.names.specs.Places.{nameAt}
 use Rattle.reader.specs.State.{reading, Starts, Declares, Steps, InText, Says, Enters}
 use Rattle.reader.proofs.Lines.{part-rest, part-part}
 

@@ -19,11 +19,11 @@ use Rattle.text.specs.declared.Spelling.{Spelling}
 use Rattle.text.specs.Reading.{readAlone, readBoth}
 use Rattle.text.specs.Lookup.{nobody}
 use Rattle.text.proofs.Accepted.{accepted-alone, accepted-both}
-use Rattle.signals.specs.declared.Name.{Name}
+use Rattle.names.specs.declared.Name.{Name}
 use Rattle.reader.specs.declared.state.Signals.{Signals}
 use Rattle.reader.specs.declared.state.Told.{Told}
 use Rattle.reader.specs.declared.state.Both.{Both}
-use Rattle.signals.specs.Names.{nameAt, isDeclared}
+use Rattle.names.specs.Places.{nameAt, isDeclared}
 use Rattle.reader.specs.State.{signalAt, signalsOf, ReadsOne, ReadsBoth}
 use Rattle.reader.proofs.Names.{signals-length, signal-at}
 use Rattle.reader.proofs.Meaning.{alone-ended, alone-finished, both-ended, both-finished}

@@ -13,11 +13,11 @@ use Rattle.text.specs.declared.Spelling.{Spelling}
 use Rattle.text.specs.Fields.{matches}
 use Rattle.text.specs.Reading.{textOf, firstMatch, indexOf}
 use Rattle.text.proofs.Names.{index-le, index-from, first-le-index}
-use Rattle.scan.specs.CaseBit.{caseBit}
-use Rattle.scan.proofs.Bytes.{match-unlike, match-differ-bit}
-use Rattle.signals.specs.declared.Name.{Name}
+use Rattle.lines.specs.CaseBit.{caseBit}
+use Rattle.lines.proofs.Bytes.{match-unlike, match-differ-bit}
+use Rattle.names.specs.declared.Name.{Name}
 use Rattle.reader.specs.declared.state.Signals.{Signals}
-use Rattle.signals.specs.Names.{nameAt}
+use Rattle.names.specs.Places.{nameAt}
 use Rattle.reader.specs.State.{signalAt, signalsOf, Fit, Addable, Added}
 
 -- ---- a name that stands in its text t: what tells it from others

@@ -18,9 +18,9 @@ use Rattle.text.specs.Lookup.{nobody}
 use Rattle.text.specs.Clashes.{firstAlike, clashing, lineOf, declaredAt, clashAt, clashesOf}
 use Rattle.text.proofs.Ascending.{those-few}
 use Rattle.text.proofs.Split.{split-some}
-use Rattle.scan.proofs.Bytes.{drop-step}
-use Rattle.signals.specs.declared.Name.{Name}
-use Rattle.signals.specs.Names.{nameAt}
+use Rattle.lines.proofs.Bytes.{drop-step}
+use Rattle.names.specs.declared.Name.{Name}
+use Rattle.names.specs.Places.{nameAt}
 use Rattle.reader.specs.declared.ClashList.{ClashList}
 use Rattle.reader.specs.declared.Listing.{Listing}
 use Rattle.reader.specs.declared.state.Signals.{Signals}

@@ -15,12 +15,12 @@ use Rattle.text.specs.declared.Spelling.{Spelling}
 use Rattle.text.specs.Fields.{upto, split}
 use Rattle.text.specs.Lines.{parse}
 use Rattle.text.specs.Reading.{textOf, next, stop, Outcome, refuseAt, onward, entered, isNil, fresh, readLines, readFrom}
-use Rattle.line.specs.declared.Record.{Record}
-use Rattle.line.specs.declared.Line.{Line}
-use Rattle.line.specs.declared.Line.the-variants.{Taken}
-use Rattle.line.specs.declared.Line.the-variants.{Refused as NoLine}
-use Rattle.line.specs.Located.{firstLine}
-use Rattle.line.proofs.OnePass.{LineTaken, LineRefused, line-taken, line-refused}
+use Rattle.lines.specs.declared.Record.{Record}
+use Rattle.lines.specs.declared.Line.{Line}
+use Rattle.lines.specs.declared.Line.the-variants.{Taken}
+use Rattle.lines.specs.declared.Line.the-variants.{Refused as NoLine}
+use Rattle.lines.specs.Located.{firstLine}
+use Rattle.lines.proofs.OnePass.{LineTaken, LineRefused, line-taken, line-refused}
 use Rattle.reader.specs.declared.state.Signals.{Signals}
 use Rattle.reader.specs.declared.state.State.{State}
 use Rattle.reader.specs.declared.entries.Advanced.{Advanced}

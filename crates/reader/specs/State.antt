@@ -14,14 +14,14 @@ use Rattle.text.specs.declared.Spelling.{Spelling}
 use Rattle.text.specs.Fields.{split}
 use Rattle.text.specs.Lines.{parse}
 use Rattle.text.specs.Reading.{Signal, Reading, Result, next, stop, Outcome, finished, ended, Joint, both, neither, indexOf, known, started, declaring, stepping, entered, fresh, readLines, readFrom, readAlone, readBoth}
-use Rattle.line.specs.declared.Record.{Record}
-use Rattle.line.specs.declared.Parsed.the-variants.{Fields}
-use Rattle.line.specs.declared.Line.{Line}
-use Rattle.line.specs.declared.Line.the-variants.{Taken, Refused}
-use Rattle.line.specs.Located.{located}
-use Rattle.signals.specs.declared.Name.{Name}
+use Rattle.lines.specs.declared.Record.{Record}
+use Rattle.lines.specs.declared.Parsed.the-variants.{Fields}
+use Rattle.lines.specs.declared.Line.{Line}
+use Rattle.lines.specs.declared.Line.the-variants.{Taken, Refused}
+use Rattle.lines.specs.Located.{located}
+use Rattle.names.specs.declared.Name.{Name}
 use Rattle.text.specs.Reading.{textOf}
-use Rattle.signals.specs.Names.{isDeclared, nameAt}
+use Rattle.names.specs.Places.{isDeclared, nameAt}
 use Rattle.reader.specs.declared.state.Signals.{Signals}
 use Rattle.reader.specs.declared.state.State.{State}
 use Rattle.reader.specs.declared.entries.Advanced.{Advanced}

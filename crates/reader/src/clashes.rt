@@ -14,7 +14,7 @@ use crate::Listing;
 use crate::numbering;
 use crate::state::Signals;
 use crate::texts;
-use signals::Name;
+use names::Name;
 use text::Clash;
 use text::Declaration;
 use text::Spelling;
@@ -24,7 +24,7 @@ use text::TextRefusal;
 fn line_of(text: &[u8], from: usize) -> usize
     ensures { λ r. ⌜ r ≡ lineOf (now (text .entry)) from ⌝ }
 {
-    let before = scan::before(text, from);
+    let before = lines::before(text, from);
     let mut line: usize = 1;
     let mut i: usize = 0;
     while i < before.len() {
@@ -47,7 +47,7 @@ fn declared_at<'a>(m: &'a [u8], p: &'a [u8], name: Name) -> Declaration
     ensures { λ r. ⌜ r ≡ declaredAt (now (m .entry)) (now (p .entry)) (signalAt (now (m .entry)) (now (p .entry)) name) ⌝ }
 {
     let text = name.text as u32;
-    let line = line_of(signals::text_of(m, p, text), name.from as usize);
+    let line = line_of(names::text_of(m, p, text), name.from as usize);
     Declaration { text, line }
 }
 
@@ -90,7 +90,7 @@ fn visit<'a>(m: &'a [u8], p: &'a [u8], signals: Signals, i: usize, clashes: Clas
 {
     let known = signals.names;
     let name = known[i];
-    let wanted = signals::bytes_of(m, p, name);
+    let wanted = names::bytes_of(m, p, name);
     let mut j: usize = 0;
     while j < i {
         let names = signals.names;

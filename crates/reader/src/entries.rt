@@ -8,8 +8,8 @@ ghost use Rattle.text.specs.Reading.{withRole};
 ghost use Rattle.reader.specs.State.{gone, halted, lacking, Putable, Sound, Starts, Declares, Steps, Enters, Says};
 use crate::numbering;
 use crate::state::State;
-use line::Record;
-use signals::Name;
+use lines::Record;
+use names::Name;
 use text::Place;
 use text::Role;
 use text::Spelling;
@@ -108,7 +108,7 @@ fn declare<'a>(
     let header = st.header;
     let alike = numbering::alike_of(m, p, spelling, signals, name);
     let number = numbering::number_of(m, p, signals, name, alike);
-    if signals::is_declared(header, number) {
+    if names::is_declared(header, number) {
         return stop(18, st);
     }
     if alike < number {
@@ -141,7 +141,7 @@ fn put(cells: &mut [u16], at: usize, to: usize) -> bool
 fn lacks(header: Automaton, from: usize, signal: usize, to: usize) -> bool
     ensures { λ r. ⌜ r ≡ lacking header from signal to ⌝ }
 {
-    if !signals::is_declared(header, signal) {
+    if !names::is_declared(header, signal) {
         return true;
     }
     if header.states <= from {
@@ -211,7 +211,7 @@ pub fn enter<'a>(
     match fields {
         Record::Table { states, initial } => start(st, states, initial, cells.len()),
         Record::Declaration(role) => {
-            let start = at + line::name_start(role);
+            let start = at + lines::name_start(role);
             let name = named(text, start, end - start);
             declare(m, p, spelling, st, role, name, cells.len())
         }

@@ -12,14 +12,21 @@ use theory::Automaton;
 
 mod clashes;
 mod entries;
+mod lookup;
 mod numbering;
 mod places;
 mod state;
 mod texts;
 
 pub use clashes::list_clashes;
-pub use places::find;
-pub use places::find_alone;
+pub use lookup::archive_name;
+pub use lookup::archive_name_alone;
+pub use lookup::archive_number;
+pub use lookup::archive_number_alone;
+pub use lookup::name;
+pub use lookup::name_alone;
+pub use lookup::number;
+pub use lookup::number_alone;
 
 // Reply to a text read alone: the header of its automaton, whose cells are in the lent buffer; or a refusal.
 pub enum Alone {

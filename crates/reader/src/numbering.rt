@@ -3,10 +3,10 @@ ghost use mathlib.Core.Path.{_≡_};
 ghost use Prim.Native.Nat.{_≤_};
 ghost use Rattle.text.specs.Fields.{matches};
 ghost use Rattle.text.specs.Reading.{firstMatch, indexOf};
-ghost use Rattle.signals.specs.Names.{nameAt};
+ghost use Rattle.names.specs.Places.{nameAt};
 ghost use Rattle.reader.specs.State.{signalsOf, Fit, Nobody, Addable, Added};
 use crate::state::Signals;
-use signals::Name;
+use names::Name;
 use text::Spelling;
 
 // Returns the numbering in which no signal has a number yet.
@@ -28,7 +28,7 @@ pub fn none() -> Signals
 pub fn is_named<'a>(m: &'a [u8], p: &'a [u8], spelling: Spelling, name: Name, wanted: &[u8]) -> bool
     ensures { λ r. ⌜ r ≡ matches spelling (nameAt (now (m .entry)) (now (p .entry)) name) (now (wanted .entry)) ⌝ }
 {
-    let text = signals::text_of(m, p, name.text as u32);
+    let text = names::text_of(m, p, name.text as u32);
     let length = name.length as usize;
     let end = name.from as usize + length;
     if end <= text.len() {
@@ -36,13 +36,13 @@ pub fn is_named<'a>(m: &'a [u8], p: &'a [u8], spelling: Spelling, name: Name, wa
             return false;
         }
         if 0 < length {
-            let bit = scan::case_bit(spelling);
+            let bit = lines::case_bit(spelling);
             if text[end - 1] | bit != wanted[length - 1] | bit {
                 return false;
             }
         }
     }
-    scan::matches(spelling, signals::bytes_of(m, p, name), wanted)
+    lines::matches(spelling, names::bytes_of(m, p, name), wanted)
 }
 
 // Finds the first signal whose name equals this one in the spelling: returns its number, or the next free number if there is none.
@@ -56,7 +56,7 @@ pub fn alike_of<'a>(
     requires { ⌜ Fit signals ⌝ }
     ensures { λ r. ⌜ r ≡ firstMatch spelling (nameAt (now (m .entry)) (now (p .entry)) name) (signalsOf (now (m .entry)) (now (p .entry)) signals) ⌝ }
 {
-    let wanted = signals::bytes_of(m, p, name);
+    let wanted = names::bytes_of(m, p, name);
     let names = signals.names;
     let count = signals.count;
     let mut i: usize = 0;
@@ -78,7 +78,7 @@ pub fn number_of<'a>(m: &'a [u8], p: &'a [u8], signals: Signals, name: Name, fro
     requires { ⌜ from ≤ indexOf (nameAt (now m) (now p) name) (signalsOf (now m) (now p) signals) ⌝ }
     ensures { λ r. ⌜ r ≡ indexOf (nameAt (now (m .entry)) (now (p .entry)) name) (signalsOf (now (m .entry)) (now (p .entry)) signals) ⌝ }
 {
-    let wanted = signals::bytes_of(m, p, name);
+    let wanted = names::bytes_of(m, p, name);
     let names = signals.names;
     let count = signals.count;
     let mut i: usize = from;

@@ -4,7 +4,7 @@ ghost use mathlib.Core.Bool.{_||_};
 ghost use lib.ListN.{length, getD};
 ghost use Rattle.text.specs.Reading.{readAlone, readBoth};
 ghost use Rattle.text.specs.Lookup.{nobody};
-ghost use Rattle.signals.specs.Names.{isDeclared};
+ghost use Rattle.names.specs.Places.{isDeclared};
 ghost use Rattle.reader.specs.State.{signalsOf};
 ghost use Rattle.reader.specs.Places.{placed, foundIn, foundAloneIn, found, foundAlone, Held};
 use crate::Found;
@@ -33,7 +33,7 @@ fn place_of<'a>(m: &'a [u8], p: &'a [u8], signals: Signals, signal: usize) -> Fo
     let names = signals.names;
     let name = names[signal];
     let from = name.from as usize;
-    let bytes = signals::bytes_of(m, p, name);
+    let bytes = names::bytes_of(m, p, name);
     Found {
         number: 0,
         text: name.text as u32,
@@ -85,7 +85,7 @@ fn find_alone_in(m: &[u8], spelling: Spelling, signal: usize, cells: &mut [u16])
     }
     let state = told.state;
     let signals = state.signals;
-    if !signals::is_declared(state.header, signal) {
+    if !names::is_declared(state.header, signal) {
         return nowhere(12);
     }
     place_of(m, m, signals, signal)

@@ -1,5 +1,5 @@
 // State of a reading between two lines, but for the lent cells; and the results of reading one text and two.
-use signals::Name;
+use names::Name;
 use text::Place;
 use text::TextRefusal;
 use theory::Automaton;

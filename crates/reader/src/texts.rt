@@ -11,7 +11,7 @@ use crate::state::Both;
 use crate::state::Signals;
 use crate::state::State;
 use crate::state::Told;
-use line::Line;
+use lines::Line;
 use text::Place;
 use text::Spelling;
 use text::TextRefusal;
@@ -66,13 +66,13 @@ fn read_lines<'a>(
     requires { ⌜ length (textOf (now m) (now p) text) ≤ 65536 ⌝ }
     ensures { λ r. ⌜ ReadsLines (now (m .entry)) (now (p .entry)) text spelling signals (length (now (cells .entry))) r (now (cells .exit)) ⌝ }
 {
-    let bytes = signals::text_of(m, p, text as u32);
+    let bytes = names::text_of(m, p, text as u32);
     let mut st = fresh(signals);
     let mut at: usize = 0;
     let mut line: usize = 1;
     while at < bytes.len() {
         let place = st.place;
-        let parsed = line::parse(scan::after(bytes, at), place);
+        let parsed = lines::parse(lines::after(bytes, at), place);
         let Line::Taken(record, length) = parsed else {
             return refuse(refusal_of(parsed), text, line, st);
         };
@@ -110,7 +110,7 @@ fn read<'a>(
     ensures { λ r. ⌜ Reads (now (m .entry)) (now (p .entry)) text spelling signals (length (now (cells .entry))) r (now (cells .exit)) ⌝ }
 {
     table::clear(cells);
-    let bytes = signals::text_of(m, p, text as u32);
+    let bytes = names::text_of(m, p, text as u32);
     if 65536 < bytes.len() {
         return refuse(13, text, 0, fresh(signals));
     }

@@ -1,5 +1,12 @@
+pub mod SignalNames
+pub mod NoClash
+pub mod Lines
+pub mod LineLengths
 pub mod Texts
 pub mod Made
 pub mod Whole
-pub mod Short
+pub mod Lengths
 pub mod Meaning
+pub mod Programs
+pub mod Listing
+pub mod ListingMeaning

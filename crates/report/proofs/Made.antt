@@ -24,7 +24,7 @@ use Rattle.table.proofs.StepCounts.{steps-of-table}
 use Rattle.synthesis.specs.declared.Synthesis.{Synthesis}
 use Rattle.synthesis.specs.declared.Synthesis.the-variants as made
 use Rattle.synthesis.specs.Contract.{verdict, decidedOf, synthesisReply, synthesisCells, synthesisFlags}
-use Rattle.printout.specs.Lines.{refusalText, figures}
+use Rattle.report.specs.Lines.{refusalText, figures}
 use Rattle.report.specs.Report.{textChecks, withText, reportChecks, resultText}
 use Rattle.report.specs.Parts.{sixOf, isRefused, answerText, Answers, replyChecked, replyText, Makes}
 

@@ -29,7 +29,7 @@ use Rattle.text.specs.Writing.{decimal, tabbed, printed}
 use Rattle.text.proofs.Decimal.{Digits, digits-of}
 use Rattle.emit.specs.Buffer.{stored}
 use Rattle.emit.proofs.Buffer.{stored-front}
-use Rattle.printout.specs.Lines.{refusalText, figures}
+use Rattle.report.specs.Lines.{refusalText, figures}
 use Rattle.report.specs.Report.{lentPairs, roomOf, reportChecks, resultText, checkedOf, byReading, reportText, reportBuffers}
 use Rattle.report.proofs.Whole.{lent-fits}
 

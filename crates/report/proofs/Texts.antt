@@ -17,8 +17,8 @@ use Rattle.writer.specs.declared.Printed.{Printed}
 use Rattle.writer.specs.declared.Printed.the-variants as reply
 use Rattle.writer.specs.Replies.{writerReply}
 use Rattle.writer.proofs.Replies.{refused-of, accepted-of}
-use Rattle.labels.specs.Names.{sequencerWord, signalNames}
-use Rattle.printout.specs.Lines.{refusalText}
+use Rattle.report.specs.SignalNames.{sequencerWord, signalNames}
+use Rattle.report.specs.Lines.{refusalText}
 use Rattle.report.specs.Report.{textChecks, withText}
 use Rattle.report.specs.Parts.{Answers}
 

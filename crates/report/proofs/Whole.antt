@@ -23,11 +23,11 @@ use Rattle.emit.proofs.Buffer.{Puts}
 use Rattle.reader.specs.declared.Together.{Together}
 use Rattle.reader.specs.declared.Together.the-variants as together
 use Rattle.reader.specs.Replies.{togetherReply}
-use Rattle.printout.specs.Lines.{refusalText}
-use Rattle.printout.proofs.Short.{within}
+use Rattle.report.specs.Lines.{refusalText}
+use Rattle.report.proofs.LineLengths.{within}
 use Rattle.report.specs.Report.{lesserOf, roomOf, reportChecks, checkedOf, reportText, Buffers, reportBuffers}
 use Rattle.report.specs.Parts.{isRefused, Makes, Holds, Fitting, Leaves, pairsFor}
-use Rattle.report.proofs.Short.{report-short}
+use Rattle.report.proofs.Lengths.{report-short}
 
 -- ---- the lesser of two numbers
 

@@ -14,7 +14,7 @@ use Rattle.reach.specs.Ends.{endsIn}
 use Rattle.table.specs.StepCounts.{stepsIn}
 use Rattle.synthesis.specs.declared.Synthesis.{Synthesis}
 use Rattle.synthesis.specs.declared.Synthesis.the-variants as made
-use Rattle.printout.specs.Lines.{refusalText, figures}
+use Rattle.report.specs.Lines.{refusalText, figures}
 use Rattle.report.specs.Report.{lentPairs, roomOf, textChecks, withText, reportChecks, resultText}
 
 -- The six lines over what stands in the maker's buffers.

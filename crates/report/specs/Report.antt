@@ -12,8 +12,8 @@ use Rattle.text.specs.declared.Spelling.the-variants.{Folded}
 use Rattle.text.specs.Reading.{Reading, Joint, both, neither, readBoth, tableRead}
 use Rattle.text.specs.Writing.{wholeText, writerChecks}
 use Rattle.emit.specs.Buffer.{stored}
-use Rattle.labels.specs.Names.{sequencerWord, signalNames}
-use Rattle.printout.specs.Lines.{refusalText, figures}
+use Rattle.report.specs.SignalNames.{sequencerWord, signalNames}
+use Rattle.report.specs.Lines.{refusalText, figures}
 
 -- ---- two tables
 

@@ -6,7 +6,7 @@ ghost use lib.ListN.{length, take, replicate};
 ghost use Rattle.theory.specs.Table.{table};
 ghost use Rattle.theory.specs.Checks.{first};
 ghost use Rattle.emit.specs.Buffer.{after, stored};
-ghost use Rattle.printout.specs.Lines.{refusalText};
+ghost use Rattle.report.specs.Lines.{refusalText};
 ghost use Rattle.report.specs.Report.{lesserOf, roomOf, textChecks, withText, reportText, reportBuffers};
 ghost use Rattle.report.specs.Parts.{sixOf, Answers, replyChecked, replyText, Makes, Holds, Fitting, Leaves};
 use printout::refusal_line;
@@ -15,6 +15,15 @@ use synthesis::Synthesis;
 use theory::Automaton;
 use theory::Refusal;
 use writer::Printed;
+
+mod labels;
+mod listing;
+mod printout;
+mod program;
+
+pub use listing::list;
+pub use program::clashes;
+pub use program::program;
 
 // What was put into the lent buffer for two tables: whether it is the line of a refusal, and where it ends.
 struct Answer {

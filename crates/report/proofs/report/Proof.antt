@@ -5,7 +5,7 @@ use Rattle.report.proofs.report.Statement.{statement}
 use Rattle.report.proofs.report.Tie as tie
 use Rattle.report.proofs.report.Reads as reads
 use Rattle.report.proofs.report.Lts as lts
-use Rattle.printout.proofs.refusal_line.Reads as refusal-line-reads
+use Rattle.report.proofs.printout.refusal_line.Reads as refusal-line-reads
 use Rattle.reader.proofs.read_together.Reads as read-together-reads
 use Rattle.report.proofs.clear_if.Reads as clear-if-reads
 use Rattle.report.proofs.make_in.Reads as make-in-reads

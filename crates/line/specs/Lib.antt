@@ -1,2 +1,0 @@
-pub mod Located
-pub mod OnePass

@@ -1,0 +1,97 @@
+use native.Mathlib.Omega.{arith}
+use Rattle.lines.proofs.Parsing.{line-bare, line-table, line-declaration, line-step, line-unknown}
+use borrow.Author.Needs.{needs}
+use Rattle.lines.proofs.says.Statement.{statement}
+use Rattle.lines.proofs.says.Tie as tie
+
+find-requires : tie.Need-find-requires
+find-requires c κs = search needs
+
+returns : tie.Need-returns
+returns c = line-bare _ _ _ (c .before .find .ensures) (omega arith)
+
+add-after : tie.Need-add-after
+add-after c = search needs
+
+after-requires : tie.Need-after-requires
+after-requires c κs = search needs
+
+before-requires : tie.Need-before-requires
+before-requires c κs = search needs
+
+kind-of-requires : tie.Need-kind-of-requires
+kind-of-requires c κs = search needs
+
+enum-told : tie.Need-enum-told
+enum-told c = search needs
+
+table-line-requires : tie.Need-table-line-requires
+table-line-requires c κs = search needs
+
+enum-known-role : tie.Need-enum-known-role
+enum-known-role c = search needs
+
+declaration-line-requires : tie.Need-declaration-line-requires
+declaration-line-requires c κs = search needs
+
+enum-told-2 : tie.Need-enum-told-2
+enum-told-2 c = search needs
+
+add-step-line : tie.Need-add-step-line
+add-step-line c = search needs
+
+step-line-requires : tie.Need-step-line-requires
+step-line-requires c κs = search needs
+
+enum-told-3 : tie.Need-enum-told-3
+enum-told-3 c = search needs
+
+returns-2 : tie.Need-returns-2
+returns-2 c =
+    let d = c .before .before .before .before .before in
+    line-table _ _ _ (d .before .before .find .ensures) (omega arith) _ _ (d .after .ensures .0)
+    (c .before .before .before .before .before2 .ensures .0) _ (c .before .before .before .kind-of .ensures) (c .before .enum-told .given .1) _
+    (c .table-line .ensures)
+
+returns-3 : tie.Need-returns-3
+returns-3 c =
+    let d = c .before .before .before .before .before .before in
+    line-declaration _ _ _ (d .before .before .find .ensures) (omega arith) _ _ (d .after .ensures .0)
+    (c .before .before .before .before .before .before2 .ensures .0) _ (c .before .before .before .before .kind-of .ensures) _
+    (c .before .before .role .given .1) _ (c .declaration-line .ensures)
+
+returns-4 : tie.Need-returns-4
+returns-4 c =
+    let d = c .before .before .before .before .before in
+    line-step _ _ _ (d .before .before .find .ensures) (omega arith) _ _ (d .after .ensures .0)
+    (c .before .before .before .before .before2 .ensures .0) _ (c .before .before .before .kind-of .ensures) (c .before .enum-told2 .given .1)
+    _ (c .step-line .ensures)
+
+returns-5 : tie.Need-returns-5
+returns-5 c =
+    let d = c .before .before .before .before in
+    line-unknown _ _ _ (d .before .before .find .ensures) (omega arith) _ _ (d .after .ensures .0)
+    (c .before .before .before .before2 .ensures .0) _ (c .before .before .kind-of .ensures) (c .enum-told3 .given .1)
+
+pub says-spec : {M : Type 1} → statement M
+says-spec =
+    tie.close
+    (tie.spec
+    find-requires
+    returns
+    add-after
+    after-requires
+    before-requires
+    kind-of-requires
+    enum-told
+    table-line-requires
+    enum-known-role
+    declaration-line-requires
+    enum-told-2
+    add-step-line
+    step-line-requires
+    enum-told-3
+    returns-2
+    returns-3
+    returns-4
+    returns-5)

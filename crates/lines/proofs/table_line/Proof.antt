@@ -1,0 +1,87 @@
+use native.Mathlib.Omega.{arith}
+use denote.Ref.{now}
+use Rattle.lines.proofs.Cuts.{ThreeAt, three-at}
+use Rattle.lines.proofs.Judging.{table-other, table-good, table-bad}
+use borrow.Author.Needs.{needs}
+use Rattle.lines.proofs.table_line.Statement.{statement}
+use Rattle.lines.proofs.table_line.Tie as tie
+
+-- Where the two tabs stand.
+cut : (c : tie.After-known-told)
+    → ThreeAt (now (c .before .before .before .before .before .args .rest)) (c .before .first .given .0 .0) (c .before .first .given .0 .1 .0)
+cut c = three-at _ _ _ _ (c .before .before .before .three-fields .ensures) (c .before .first .given .1)
+
+three-fields-requires : tie.Need-three-fields-requires
+three-fields-requires c κs = search needs
+
+enum-known-first : tie.Need-enum-known-first
+enum-known-first c = search needs
+
+enum-told : tie.Need-enum-told
+enum-told c = search needs
+
+returns : tie.Need-returns
+returns c = table-other _ _ _ (c .before .before .three-fields .ensures) (c .enum-told .given .1)
+
+before-requires : tie.Need-before-requires
+before-requires c κs = search needs
+
+add-part : tie.Need-add-part
+add-part c = let t = cut (c .before) in omega arith
+
+part-requires : tie.Need-part-requires
+part-requires c κs = search needs
+
+takes-table-requires : tie.Need-takes-table-requires
+takes-table-requires c κs = search needs
+
+add-after : tie.Need-add-after
+add-after c = let t = cut (c .before .before .before) in omega arith
+
+after-requires : tie.Need-after-requires
+after-requires c κs = search needs
+
+judge-requires : tie.Need-judge-requires
+judge-requires c κs = search needs
+
+enum-known-states : tie.Need-enum-known-states
+enum-known-states c = search needs
+
+enum-known-number : tie.Need-enum-known-number
+enum-known-number c = search needs
+
+returns-2 : tie.Need-returns-2
+returns-2 c =
+    let j = c .before .before .before in
+    let k = j .before .before .before .before .before in
+    table-good _ _ _ (k .before .before .before .three-fields .ensures) _ _ (k .before .first .given .1) _ _ _
+    (j .before .before .before .before .before2 .ensures .0) (j .before .before .before .part .ensures .0) (j .before .after .ensures .0) _
+    (j .before .before .takes-table .ensures) _ (j .judge .ensures) _ _ (c .before .states .given .1)
+
+returns-3 : tie.Need-returns-3
+returns-3 c =
+    let j = c .before .before .before in
+    let k = j .before .before .before .before .before in
+    table-bad _ _ _ (k .before .before .before .three-fields .ensures) _ _ (k .before .first .given .1) _ _ _
+    (j .before .before .before .before .before2 .ensures .0) (j .before .before .before .part .ensures .0) (j .before .after .ensures .0) _
+    (j .before .before .takes-table .ensures) _ (j .judge .ensures) _ (c .before .number .given .1)
+
+pub table-line-spec : {M : Type 1} → statement M
+table-line-spec =
+    tie.close
+    (tie.spec
+    three-fields-requires
+    enum-known-first
+    enum-told
+    returns
+    before-requires
+    add-part
+    part-requires
+    takes-table-requires
+    add-after
+    after-requires
+    judge-requires
+    enum-known-states
+    enum-known-number
+    returns-2
+    returns-3)

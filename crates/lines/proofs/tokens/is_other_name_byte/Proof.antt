@@ -1,0 +1,26 @@
+use native.Mathlib.Omega.{arith}
+use Rattle.lines.proofs.NameRule.{byte-digit, byte-upper, byte-underscore, byte-low, byte-mid, byte-gap}
+use Rattle.lines.proofs.tokens.is_other_name_byte.Statement.{statement}
+use Rattle.lines.proofs.tokens.is_other_name_byte.Tie as tie
+
+returns : tie.Need-returns
+returns c = byte-underscore _ (omega arith)
+
+returns-2 : tie.Need-returns-2
+returns-2 c = byte-digit _ (omega arith) (omega arith)
+
+returns-3 : tie.Need-returns-3
+returns-3 c = byte-upper _ (omega arith) (omega arith)
+
+returns-4 : tie.Need-returns-4
+returns-4 c = byte-low _ (omega arith)
+
+returns-5 : tie.Need-returns-5
+returns-5 c = byte-mid _ (omega arith) (omega arith)
+
+returns-6 : tie.Need-returns-6
+returns-6 c = byte-gap _ (omega arith) (omega arith) (omega arith)
+
+pub is-other-name-byte-spec : {M : Type 1} → statement M
+is-other-name-byte-spec =
+    tie.close (tie.spec returns returns-2 returns-3 returns-4 returns-5 returns-6)

@@ -1,0 +1,4 @@
+pub mod Places
+pub mod CaseBit
+pub mod Located
+pub mod OnePass

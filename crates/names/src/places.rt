@@ -1,0 +1,32 @@
+// Signals of two texts: whether an automaton has one, and its name as a part of one of the texts.
+ghost use mathlib.Core.Path.{_≡_};
+ghost use denote.Ref.{ptr};
+ghost use Rattle.lines.specs.Places.{placeIn};
+ghost use Rattle.text.specs.Reading.{textOf};
+ghost use Rattle.names.specs.Places.{isDeclared, nameAt};
+use crate::Name;
+use theory::Automaton;
+
+// Tells whether the signal is an input or an output of the automaton.
+pub fn is_declared(header: Automaton, signal: usize) -> bool
+    ensures { λ r. ⌜ r ≡ isDeclared header signal ⌝ }
+{
+    sets::contains(table::declared(header), signal)
+}
+
+// Returns the text with this number: 2 is the second text, any other number the first.
+pub fn text_of<'a>(m: &'a [u8], p: &'a [u8], text: u32) -> &'a [u8]
+    ensures { λ r. ⌜ now r ≡ textOf (now (m .entry)) (now (p .entry)) text ⌝ }
+    ensures { λ r. ⌜ ptr r ≡ textOf (ptr (m .entry)) (ptr (p .entry)) text ⌝ }
+{
+    if text == 2 { p } else { m }
+}
+
+// Returns a name as the part of its text where it stands, as far as the text reaches.
+pub fn bytes_of<'a>(m: &'a [u8], p: &'a [u8], name: Name) -> &'a [u8]
+    ensures { λ r. ⌜ now r ≡ nameAt (now (m .entry)) (now (p .entry)) name ⌝ }
+    ensures { λ r. ⌜ ptr r ≡ placeIn (textOf (ptr (m .entry)) (ptr (p .entry)) (name .text)) (textOf (now (m .entry)) (now (p .entry)) (name .text)) (name .from) ⌝ }
+{
+    let from = lines::after(text_of(m, p, name.text as u32), name.from as usize);
+    lines::before(from, name.length as usize)
+}
