@@ -8,7 +8,7 @@ ghost use Rattle.text.specs.Lookup.{lookup, lookupNumber, lookupAlone, lookupNu
 ghost use Rattle.text.specs.Writing.{writerBytes};
 ghost use Rattle.reader.specs.Replies.{aloneReply, togetherReply};
 ghost use Rattle.emit.specs.Buffer.{after, stored};
-ghost use Rattle.names.specs.Lent.{texts};
+ghost use Rattle.names.specs.LentNames.{texts};
 ghost use Rattle.writer.specs.Replies.{writerReply};
 ghost use Rattle.report.specs.Listing.{listingText};
 ghost use Rattle.report.specs.Report.{reportText, reportBuffers};

@@ -21,9 +21,9 @@ use Rattle.text.specs.declared.Spelling.{Spelling}
 use Rattle.text.specs.declared.Spelling.the-variants.{Exact, Folded}
 use Rattle.text.specs.Fields.{nameOk}
 use Rattle.text.specs.Writing.{nameOf, misnamed, ambiguous}
-use Rattle.names.specs.Lent.{anyOf, repeated, Named, nameChecks}
+use Rattle.names.specs.LentNames.{anyOf, repeated, Named, nameChecks}
 use Rattle.lines.proofs.NameRule.{name-short}
-use Rattle.names.proofs.Lent.{named-all, exact-none}
+use Rattle.names.proofs.LentNames.{named-all, exact-none}
 
 -- The declared signals are the members of the set that code takes them from.
 pub declared-has : (a : Automaton) (cells : List ℕ) (x : ℕ) → x < 32 → declared (table a cells) x ≡ has (declaredSet a) x

@@ -1,4 +1,4 @@
-pub mod Places
+pub mod NamePlaces
 pub mod Listed
-pub mod Lent
+pub mod LentNames
 pub mod Checks

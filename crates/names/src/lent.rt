@@ -6,7 +6,7 @@ ghost use Prim.Native.Nat.{ℕ};
 ghost use Rattle.theory.specs.Checks.{first};
 ghost use Rattle.text.specs.Fields.{matches, nameOk};
 ghost use Rattle.text.specs.Writing.{nameOf};
-ghost use Rattle.names.specs.Lent.{texts, anyOf, repeated, Named, nameChecks};
+ghost use Rattle.names.specs.LentNames.{texts, anyOf, repeated, Named, nameChecks};
 use text::Spelling;
 use theory::Automaton;
 use theory::Checked;

@@ -3,7 +3,7 @@ ghost use mathlib.Core.Path.{_≡_};
 ghost use denote.Ref.{ptr};
 ghost use Rattle.lines.specs.Places.{placeIn};
 ghost use Rattle.text.specs.Reading.{textOf};
-ghost use Rattle.names.specs.Places.{isDeclared, nameAt};
+ghost use Rattle.names.specs.NamePlaces.{isDeclared, nameAt};
 use crate::Name;
 use theory::Automaton;
 

@@ -26,7 +26,7 @@ use Rattle.names.specs.declared.Name.{Name}
 use Rattle.reader.specs.declared.state.Signals.{Signals}
 use Rattle.reader.specs.declared.state.State.{State}
 use Rattle.reader.specs.declared.entries.Advanced.{Advanced}
-use Rattle.names.specs.Places.{nameAt, isDeclared}
+use Rattle.names.specs.NamePlaces.{nameAt, isDeclared}
 use Rattle.reader.specs.State.{signalsOf, Fit, Addable, Added, lacking, halted, gone, Sound, Putable, Starts, Declares, Steps}
 use Rattle.reader.proofs.Names.{signals-length}
 

@@ -19,7 +19,7 @@ use Rattle.lines.proofs.Meaning.{DeclarationReply, StepReply, table-reply, decl
 use Rattle.reader.specs.declared.state.State.{State}
 use Rattle.reader.specs.declared.entries.Advanced.{Advanced}
 use Rattle.names.specs.declared.Name.{Name}
-use Rattle.names.specs.Places.{nameAt}
+use Rattle.names.specs.NamePlaces.{nameAt}
 use Rattle.reader.specs.State.{reading, Starts, Declares, Steps, InText, Says, Enters}
 use Rattle.reader.proofs.Lines.{part-rest, part-part}
 

@@ -23,7 +23,7 @@ use Rattle.names.specs.declared.Name.{Name}
 use Rattle.reader.specs.declared.state.Signals.{Signals}
 use Rattle.reader.specs.declared.state.Told.{Told}
 use Rattle.reader.specs.declared.state.Both.{Both}
-use Rattle.names.specs.Places.{nameAt, isDeclared}
+use Rattle.names.specs.NamePlaces.{nameAt, isDeclared}
 use Rattle.reader.specs.State.{signalAt, signalsOf, ReadsOne, ReadsBoth}
 use Rattle.reader.proofs.Names.{signals-length, signal-at}
 use Rattle.reader.proofs.Meaning.{alone-ended, alone-finished, both-ended, both-finished}

@@ -8,4 +8,4 @@ pub mod Meaning
 pub mod Replies
 pub mod Finding
 pub mod Rows
-pub mod Lookup
+pub mod NameParts

@@ -17,7 +17,7 @@ use Rattle.lines.specs.CaseBit.{caseBit}
 use Rattle.lines.proofs.Bytes.{match-unlike, match-differ-bit}
 use Rattle.names.specs.declared.Name.{Name}
 use Rattle.reader.specs.declared.state.Signals.{Signals}
-use Rattle.names.specs.Places.{nameAt}
+use Rattle.names.specs.NamePlaces.{nameAt}
 use Rattle.reader.specs.State.{signalAt, signalsOf, Fit, Addable, Added}
 
 -- ---- a name that stands in its text t: what tells it from others

@@ -20,7 +20,7 @@ use Rattle.text.proofs.Ascending.{those-few}
 use Rattle.text.proofs.Split.{split-some}
 use Rattle.lines.proofs.Bytes.{drop-step}
 use Rattle.names.specs.declared.Name.{Name}
-use Rattle.names.specs.Places.{nameAt}
+use Rattle.names.specs.NamePlaces.{nameAt}
 use Rattle.reader.specs.declared.ClashList.{ClashList}
 use Rattle.reader.specs.declared.Listing.{Listing}
 use Rattle.reader.specs.declared.state.Signals.{Signals}

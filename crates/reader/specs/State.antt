@@ -21,7 +21,7 @@ use Rattle.lines.specs.declared.Line.the-variants.{Taken, Refused}
 use Rattle.lines.specs.Located.{located}
 use Rattle.names.specs.declared.Name.{Name}
 use Rattle.text.specs.Reading.{textOf}
-use Rattle.names.specs.Places.{isDeclared, nameAt}
+use Rattle.names.specs.NamePlaces.{isDeclared, nameAt}
 use Rattle.reader.specs.declared.state.Signals.{Signals}
 use Rattle.reader.specs.declared.state.State.{State}
 use Rattle.reader.specs.declared.entries.Advanced.{Advanced}

@@ -3,7 +3,7 @@ ghost use mathlib.Core.Path.{_≡_};
 ghost use Prim.Native.Nat.{_≤_};
 ghost use Rattle.text.specs.Fields.{matches};
 ghost use Rattle.text.specs.Reading.{firstMatch, indexOf};
-ghost use Rattle.names.specs.Places.{nameAt};
+ghost use Rattle.names.specs.NamePlaces.{nameAt};
 ghost use Rattle.reader.specs.State.{signalsOf, Fit, Nobody, Addable, Added};
 use crate::state::Signals;
 use names::Name;

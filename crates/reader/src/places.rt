@@ -4,7 +4,7 @@ ghost use mathlib.Core.Bool.{_||_};
 ghost use lib.ListN.{length, getD};
 ghost use Rattle.text.specs.Reading.{readAlone, readBoth};
 ghost use Rattle.text.specs.Lookup.{nobody};
-ghost use Rattle.names.specs.Places.{isDeclared};
+ghost use Rattle.names.specs.NamePlaces.{isDeclared};
 ghost use Rattle.reader.specs.State.{signalsOf};
 ghost use Rattle.reader.specs.Places.{placed, foundIn, foundAloneIn, found, foundAlone, Held};
 use crate::Found;

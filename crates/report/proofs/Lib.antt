@@ -8,5 +8,5 @@ pub mod Whole
 pub mod Lengths
 pub mod Meaning
 pub mod Programs
-pub mod Listing
+pub mod ListedClashes
 pub mod ListingMeaning

@@ -25,8 +25,8 @@ use Rattle.text.specs.Writing.{printed, those, signals, nameOf, tableRow, signa
 use Rattle.text.proofs.Written.{printed-append}
 use Rattle.emit.specs.Rows.{tableText, signalText, stepText}
 use Rattle.emit.proofs.Buffer.{Puts, puts-none, puts-then}
-use Rattle.names.specs.Lent.{texts, Named}
-use Rattle.names.proofs.Lent.{name-lent, lent-length}
+use Rattle.names.specs.LentNames.{texts, Named}
+use Rattle.names.proofs.LentNames.{name-lent, lent-length}
 use Rattle.names.proofs.Checks.{declared-has}
 use Rattle.names.proofs.Listed.{those-same, those-lowest, those-empty}
 use Rattle.writer.specs.Rows.{signalLines, cellText, steps, stateLines, stepLines, Known, Writable}

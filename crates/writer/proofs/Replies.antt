@@ -17,7 +17,7 @@ use Rattle.theory.specs.Valid.{Valid}
 use Rattle.theory.proofs.Checks.{first-refused, first-accepted, first-part, checks-valid}
 use Rattle.text.specs.Writing.{wholeText, textLength, writerChecks, writerBytes}
 use Rattle.emit.proofs.Buffer.{Puts, stored-front}
-use Rattle.names.specs.Lent.{Named, nameChecks}
+use Rattle.names.specs.LentNames.{Named, nameChecks}
 use Rattle.names.proofs.Checks.{passed-named, passed-short}
 use Rattle.writer.specs.declared.Printed.{Printed}
 use Rattle.writer.specs.declared.Printed.the-variants as reply

@@ -5,7 +5,7 @@ use lib.ListN.{length, drop}
 use Rattle.theory.specs.Table.{Table}
 use Rattle.theory.specs.Checks.{Check, unplaced, first, unlessRefused, tableChecks}
 use Rattle.text.specs.Writing.{wholeText, textLength, tooLong, writerChecks}
-use Rattle.names.specs.Lent.{nameChecks}
+use Rattle.names.specs.LentNames.{nameChecks}
 use Rattle.writer.specs.declared.Printed.{Printed}
 use Rattle.writer.specs.declared.Printed.the-variants as reply
 

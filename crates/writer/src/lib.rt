@@ -6,7 +6,7 @@ ghost use Rattle.theory.specs.Table.{declaredSet, table};
 ghost use Rattle.theory.specs.Valid.{Valid};
 ghost use Rattle.theory.specs.Checks.{first};
 ghost use Rattle.text.specs.Writing.{writerBytes};
-ghost use Rattle.names.specs.Lent.{texts, Named};
+ghost use Rattle.names.specs.LentNames.{texts, Named};
 ghost use Rattle.writer.specs.Replies.{checksBefore, printReply, printBytes, writerReply};
 use theory::Automaton;
 use theory::Checked;

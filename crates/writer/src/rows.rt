@@ -6,7 +6,7 @@ ghost use Rattle.theory.specs.Table.{declaredSet, table};
 ghost use Rattle.theory.specs.Valid.{Valid};
 ghost use Rattle.text.specs.Writing.{wholeText, nameOf};
 ghost use Rattle.emit.specs.Buffer.{after, stored};
-ghost use Rattle.names.specs.Lent.{texts, Named};
+ghost use Rattle.names.specs.LentNames.{texts, Named};
 ghost use Rattle.writer.specs.Rows.{signalLines, cellText, stateLines, stepLines, Known, Writable};
 use theory::Automaton;
 

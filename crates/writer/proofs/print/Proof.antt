@@ -1,5 +1,5 @@
 use Rattle.theory.specs.Table.{table}
-use Rattle.names.specs.Lent.{texts}
+use Rattle.names.specs.LentNames.{texts}
 use Rattle.writer.proofs.Replies.{print-beyond, print-long, print-fits}
 use borrow.Author.Needs.{needs}
 use Rattle.writer.proofs.print.Statement.{statement}

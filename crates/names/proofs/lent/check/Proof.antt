@@ -1,5 +1,5 @@
 use mathlib.Core.Path.{sym, _∙_}
-use Rattle.names.proofs.Lent.{named-all}
+use Rattle.names.proofs.LentNames.{named-all}
 use Rattle.names.proofs.Checks.{names-table, names-signals, names-repeated, names-clash, names-pass}
 use borrow.Author.Needs.{needs}
 use Rattle.names.proofs.lent.check.Statement.{statement}

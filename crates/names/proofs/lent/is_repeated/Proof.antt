@@ -2,8 +2,8 @@ use Prim.Native.Nat.{_<_}
 use native.Mathlib.Omega.{arith}
 use lib.ListN.{length}
 use Rattle.sets.proofs.Visit.{Visit, visit-start, visit-below, visit-member, visit-less, visit-turn, visit-step, visit-end}
-use Rattle.names.specs.Lent.{texts}
-use Rattle.names.proofs.Lent.{name-lent, lent-length, named-part, Apart, apart-start, apart-turn, apart-found, apart-end}
+use Rattle.names.specs.LentNames.{texts}
+use Rattle.names.proofs.LentNames.{name-lent, lent-length, named-part, Apart, apart-start, apart-turn, apart-found, apart-end}
 use borrow.Author.Needs.{needs}
 use Rattle.names.proofs.lent.is_repeated.Statement.{statement}
 use Rattle.names.proofs.lent.is_repeated.Tie as tie

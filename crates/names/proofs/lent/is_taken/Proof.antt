@@ -4,8 +4,8 @@ use lib.ListN.{length}
 use Rattle.text.specs.Fields.{matches}
 use Rattle.text.specs.Writing.{nameOf}
 use Rattle.sets.proofs.Visit.{Visit, visit-start, visit-below, visit-member, visit-less, visit-step, visit-end}
-use Rattle.names.specs.Lent.{texts}
-use Rattle.names.proofs.Lent.{lent-length, None, none-start, none-turn, none-end, one-found, match-told}
+use Rattle.names.specs.LentNames.{texts}
+use Rattle.names.proofs.LentNames.{lent-length, None, none-start, none-turn, none-end, one-found, match-told}
 use borrow.Author.Needs.{needs}
 use Rattle.names.proofs.lent.is_taken.Statement.{statement}
 use Rattle.names.proofs.lent.is_taken.Tie as tie

@@ -1,4 +1,4 @@
-use Rattle.names.proofs.Places.{name-bytes, name-place}
+use Rattle.names.proofs.NamePlaces.{name-bytes, name-place}
 use borrow.Author.Needs.{needs}
 use Rattle.names.proofs.places.bytes_of.Statement.{statement}
 use Rattle.names.proofs.places.bytes_of.Tie as tie

@@ -1,4 +1,4 @@
-use Rattle.names.proofs.Places.{declared-either}
+use Rattle.names.proofs.NamePlaces.{declared-either}
 use borrow.Author.Needs.{needs}
 use Rattle.names.proofs.places.is_declared.Statement.{statement}
 use Rattle.names.proofs.places.is_declared.Tie as tie

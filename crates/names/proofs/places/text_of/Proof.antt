@@ -1,4 +1,4 @@
-use Rattle.names.proofs.Places.{first-text, second-text}
+use Rattle.names.proofs.NamePlaces.{first-text, second-text}
 use borrow.Author.Needs.{needs}
 use Rattle.names.proofs.places.text_of.Statement.{statement}
 use Rattle.names.proofs.places.text_of.Tie as tie

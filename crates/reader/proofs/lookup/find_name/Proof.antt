@@ -1,5 +1,5 @@
 -- The part's bytes and its place are two facts, shown apart.
-use Rattle.reader.proofs.Lookup.{part-name, part-place}
+use Rattle.reader.proofs.NameParts.{part-name, part-place}
 use borrow.Author.Needs.{needs}
 use Rattle.reader.proofs.lookup.find_name.Statement.{statement}
 use Rattle.reader.proofs.lookup.find_name.Tie as tie

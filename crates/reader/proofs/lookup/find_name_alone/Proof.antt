@@ -1,4 +1,4 @@
-use Rattle.reader.proofs.Lookup.{part-name-alone, part-place-alone}
+use Rattle.reader.proofs.NameParts.{part-name-alone, part-place-alone}
 use borrow.Author.Needs.{needs}
 use Rattle.reader.proofs.lookup.find_name_alone.Statement.{statement}
 use Rattle.reader.proofs.lookup.find_name_alone.Tie as tie

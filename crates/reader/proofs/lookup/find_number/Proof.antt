@@ -1,4 +1,4 @@
-use Rattle.reader.proofs.Lookup.{part-number}
+use Rattle.reader.proofs.NameParts.{part-number}
 use borrow.Author.Needs.{needs}
 use Rattle.reader.proofs.lookup.find_number.Statement.{statement}
 use Rattle.reader.proofs.lookup.find_number.Tie as tie

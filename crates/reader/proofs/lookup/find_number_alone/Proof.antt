@@ -1,4 +1,4 @@
-use Rattle.reader.proofs.Lookup.{part-number-alone}
+use Rattle.reader.proofs.NameParts.{part-number-alone}
 use borrow.Author.Needs.{needs}
 use Rattle.reader.proofs.lookup.find_number_alone.Statement.{statement}
 use Rattle.reader.proofs.lookup.find_number_alone.Tie as tie

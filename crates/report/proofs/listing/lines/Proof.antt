@@ -4,7 +4,7 @@ use native.Mathlib.Omega.{arith}
 use lib.ListN.{length, take}
 use Rattle.emit.proofs.Buffer.{Puts}
 use Rattle.report.specs.Listing.{clashLines}
-use Rattle.report.proofs.Listing.{lines-none, lines-next, lines-done}
+use Rattle.report.proofs.ListedClashes.{lines-none, lines-next, lines-done}
 use borrow.Author.Needs.{needs}
 use Rattle.report.proofs.listing.lines.Statement.{statement}
 use Rattle.report.proofs.listing.lines.Tie as tie

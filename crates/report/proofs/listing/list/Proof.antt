@@ -1,5 +1,5 @@
 use native.Mathlib.Omega.{arith}
-use Rattle.report.proofs.Listing.{refusal-listed, listed-rows, listed-lines, put-as}
+use Rattle.report.proofs.ListedClashes.{refusal-listed, listed-rows, listed-lines, put-as}
 use borrow.Author.Needs.{needs}
 use Rattle.report.proofs.listing.list.Statement.{statement}
 use Rattle.report.proofs.listing.list.Tie as tie

@@ -5,8 +5,8 @@ use lib.Count.{trailingZeros}
 use lib.ListN.{length}
 use lib.Pow.{pow-pos}
 use Rattle.text.specs.Writing.{nameOf}
-use Rattle.names.specs.Lent.{texts, Named}
-use Rattle.names.proofs.Lent.{name-lent, lent-length, named-lowest, short-lowest, named-rest}
+use Rattle.names.specs.LentNames.{texts, Named}
+use Rattle.names.proofs.LentNames.{name-lent, lent-length, named-lowest, short-lowest, named-rest}
 use Rattle.writer.specs.Rows.{signalLines}
 use Rattle.writer.proofs.Lines.{signals-none}
 use Rattle.writer.proofs.Counted.{Counted, counted-none, counted-all, signals-counted}

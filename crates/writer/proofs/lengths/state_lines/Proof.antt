@@ -6,8 +6,8 @@ use lib.ListN.{length}
 use lib.Pow.{pow-pos}
 use Rattle.sets.proofs.Visit.{low}
 use Rattle.text.specs.Writing.{nameOf}
-use Rattle.names.specs.Lent.{texts, Named}
-use Rattle.names.proofs.Lent.{name-lent, lent-length, named-lowest, short-lowest, named-rest}
+use Rattle.names.specs.LentNames.{texts, Named}
+use Rattle.names.proofs.LentNames.{name-lent, lent-length, named-lowest, short-lowest, named-rest}
 use Rattle.writer.specs.Rows.{stateLines}
 use Rattle.writer.proofs.Lines.{steps-none}
 use Rattle.writer.proofs.Counted.{Counted, counted-none, counted-all, steps-counted}

@@ -1,7 +1,7 @@
 use mathlib.Core.Path.{_≡_, refl}
 use Prim.Native.Nat.{_-_, _*_, _^_, _≤_}
 use native.Mathlib.Omega.{arith}
-use Rattle.names.specs.Lent.{texts}
+use Rattle.names.specs.LentNames.{texts}
 use Rattle.writer.specs.Rows.{stateLines, stepLines}
 use Rattle.writer.proofs.Lines.{rowsFrom, rows-all, rows-next, rows-none}
 use Rattle.writer.proofs.Counted.{Counted, counted-none, counted-next, counted-all}

@@ -1,6 +1,6 @@
 use native.Mathlib.Omega.{arith}
 use Rattle.emit.proofs.Decimal.{decimal-most}
-use Rattle.names.specs.Lent.{texts}
+use Rattle.names.specs.LentNames.{texts}
 use Rattle.writer.proofs.Lines.{text-known, text-writable}
 use Rattle.writer.proofs.Counted.{text-long}
 use borrow.Author.Needs.{needs}

@@ -3,11 +3,11 @@ use native.Mathlib.Omega.{arith}
 use lib.Count.{trailingZeros}
 use lib.ListN.{length}
 use lib.Pow.{pow-pos}
-use Rattle.names.proofs.Lent.{name-lent, lent-length, named-lowest, named-rest}
+use Rattle.names.proofs.LentNames.{name-lent, lent-length, named-lowest, named-rest}
 use Rattle.writer.proofs.Lines.{signals-next, signals-none}
 use Prim.Native.Nat.{_^_, _<_}
 use Rattle.emit.proofs.Buffer.{Left, left-all, left-next, left-none}
-use Rattle.names.specs.Lent.{texts, Named}
+use Rattle.names.specs.LentNames.{texts, Named}
 use Rattle.writer.specs.Rows.{signalLines}
 use borrow.Author.Needs.{needs}
 use Rattle.writer.proofs.rows.signal_lines.Statement.{statement}

@@ -5,7 +5,7 @@ use lib.Count.{trailingZeros}
 use lib.Pow.{pow-pos}
 use Rattle.sets.proofs.Visit.{low}
 use Rattle.emit.proofs.Buffer.{Left, left-all, left-next, left-none}
-use Rattle.names.specs.Lent.{texts}
+use Rattle.names.specs.LentNames.{texts}
 use Rattle.writer.specs.Rows.{stateLines}
 use Rattle.writer.proofs.Lines.{entry-lent, steps-next, steps-none}
 use borrow.Author.Needs.{needs}

@@ -2,7 +2,7 @@ use mathlib.Core.Path.{_≡_, refl}
 use Prim.Native.Nat.{_-_, _≤_}
 use native.Mathlib.Omega.{arith}
 use Rattle.emit.proofs.Buffer.{Left, left-all, left-next, left-none}
-use Rattle.names.specs.Lent.{texts}
+use Rattle.names.specs.LentNames.{texts}
 use Rattle.writer.specs.Rows.{stepLines}
 use Rattle.writer.proofs.Lines.{rowsFrom, rows-all, rows-next, rows-none}
 use borrow.Author.Needs.{needs}

@@ -1,4 +1,4 @@
-use Rattle.names.specs.Lent.{texts}
+use Rattle.names.specs.LentNames.{texts}
 use Rattle.writer.proofs.Lines.{text-known, text-writable, text-put}
 use borrow.Author.Needs.{needs}
 use Rattle.writer.proofs.rows.text.Statement.{statement}

@@ -12,7 +12,7 @@ use Rattle.theory.proofs.Table.{declared-set}
 use Rattle.lines.specs.Places.{placeIn}
 use Rattle.names.specs.declared.Name.{Name}
 use Rattle.text.specs.Reading.{textOf}
-use Rattle.names.specs.Places.{isDeclared, nameAt}
+use Rattle.names.specs.NamePlaces.{isDeclared, nameAt}
 
 pub declared-either : (h : Automaton) (a d : ℕ) (r : Bool) → d ≡ declaredSet h → r ≡ member d a → r ≡ isDeclared h a
 declared-either h a d r e f = f ∙ rw e (declared-set (table h []) a)

@@ -24,7 +24,7 @@ use Rattle.text.specs.declared.Spelling.the-variants.{Exact, Folded}
 use Rattle.text.specs.Fields.{matches, nameOk}
 use Rattle.text.specs.Writing.{nameOf}
 use Rattle.text.proofs.Names.{same-match}
-use Rattle.names.specs.Lent.{texts, anyOf, repeated, Named}
+use Rattle.names.specs.LentNames.{texts, anyOf, repeated, Named}
 
 -- ---- the lent names
 
