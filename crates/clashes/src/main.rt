@@ -18,7 +18,7 @@ fn run(m: &mut [u8], p: &mut [u8], cm: &mut [u16], cp: &mut [u16], out: &mut [u8
 {
     let first = files::read(b"module.tab", m);
     let second = files::read(b"plan.tab", p);
-    let n = report::clashes(first, second, m, p, cm, cp, out);
+    let n = report::clashes_output(first, second, m, p, cm, cp, out);
     print(&out[0..n]);
 }
 

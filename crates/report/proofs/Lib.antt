@@ -7,6 +7,6 @@ pub mod Made
 pub mod Whole
 pub mod Lengths
 pub mod Meaning
-pub mod Programs
+pub mod Files
 pub mod ListedClashes
 pub mod ListingMeaning

@@ -19,11 +19,11 @@ use writer::Printed;
 mod labels;
 mod listing;
 mod printout;
-mod program;
+mod programs;
 
 pub use listing::list;
-pub use program::clashes;
-pub use program::program;
+pub use programs::clashes_output;
+pub use programs::sequencer_output;
 
 // What was put into the lent buffer for two tables: whether it is the line of a refusal, and where it ends.
 struct Answer {

@@ -25,7 +25,7 @@ fn run(
 {
     let first = files::read(b"module.tab", m);
     let second = files::read(b"plan.tab", p);
-    let n = report::program(first, second, m, p, cm, cp, cells, flags, out);
+    let n = report::sequencer_output(first, second, m, p, cm, cp, cells, flags, out);
     print(&out[0..n]);
 }
 

@@ -2,9 +2,6 @@ use Rattle.report.proofs.Whole.{on-true}
 use borrow.Author.Needs.{needs}
 use Rattle.report.proofs.clear_if.Statement.{statement}
 use Rattle.report.proofs.clear_if.Tie as tie
-use Rattle.report.proofs.clear_if.Reads as reads
-use Rattle.report.proofs.clear_if.Lts as lts
-use Rattle.table.proofs.clear.Reads as clear-reads
 
 clear-requires : tie.Need-clear-requires
 clear-requires c κs = search needs

@@ -2,10 +2,6 @@ use Rattle.report.proofs.Whole.{on-false}
 use borrow.Author.Needs.{needs}
 use Rattle.report.proofs.keep.Statement.{statement}
 use Rattle.report.proofs.keep.Tie as tie
-use Rattle.report.proofs.keep.Reads as reads
-use Rattle.report.proofs.keep.Lts as lts
-use Rattle.emit.proofs.put.Reads as put-reads
-use Rattle.report.proofs.copy.Reads as copy-reads
 
 returns : tie.Need-returns
 returns c = search needs

@@ -2,8 +2,6 @@ use Rattle.report.proofs.Whole.{lesser-first, lesser-second}
 use borrow.Author.Needs.{needs}
 use Rattle.report.proofs.lesser.Statement.{statement}
 use Rattle.report.proofs.lesser.Tie as tie
-use Rattle.report.proofs.lesser.Reads as reads
-use Rattle.report.proofs.lesser.Lts as lts
 
 returns : tie.Need-returns
 returns c = search (lesser-first, needs)

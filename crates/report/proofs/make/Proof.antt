@@ -2,10 +2,6 @@ use Rattle.report.proofs.Made.{pairs-made}
 use borrow.Author.Needs.{needs}
 use Rattle.report.proofs.make.Statement.{statement}
 use Rattle.report.proofs.make.Tie as tie
-use Rattle.report.proofs.make.Reads as reads
-use Rattle.report.proofs.make.Lts as lts
-use Rattle.report.proofs.tell.Reads as tell-reads
-use Rattle.synthesis.proofs.synthesize.Reads as synthesize-reads
 
 synthesize-requires : tie.Need-synthesize-requires
 synthesize-requires c κs = search needs

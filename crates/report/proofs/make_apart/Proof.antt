@@ -7,13 +7,6 @@ use Rattle.report.proofs.Whole.{leaves-made}
 use borrow.Author.Needs.{needs}
 use Rattle.report.proofs.make_apart.Statement.{statement}
 use Rattle.report.proofs.make_apart.Tie as tie
-use Rattle.report.proofs.make_apart.Reads as reads
-use Rattle.report.proofs.make_apart.Lts as lts
-use Rattle.report.proofs.keep.Reads as keep-reads
-use Rattle.report.proofs.make.Reads as make-reads
-use Rattle.report.proofs.own_cells.Reads as own-cells-reads
-use Rattle.report.proofs.own_flags.Reads as own-flags-reads
-use Rattle.report.proofs.pairs_lent.Reads as pairs-lent-reads
 
 pairs-lent-requires : tie.Need-pairs-lent-requires
 pairs-lent-requires c κs = search needs

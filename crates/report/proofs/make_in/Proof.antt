@@ -5,9 +5,6 @@ use Rattle.report.proofs.Whole.{few-pairs, leaves-read}
 use borrow.Author.Needs.{needs}
 use Rattle.report.proofs.make_in.Statement.{statement}
 use Rattle.report.proofs.make_in.Tie as tie
-use Rattle.report.proofs.make_in.Reads as reads
-use Rattle.report.proofs.make_in.Lts as lts
-use Rattle.report.proofs.make_apart.Reads as make-apart-reads
 
 mul-ea : tie.Need-mul-ea
 mul-ea c = search needs

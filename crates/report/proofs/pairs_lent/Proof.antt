@@ -4,9 +4,6 @@ use Rattle.report.proofs.Whole.{lent-is, lent-fits}
 use borrow.Author.Needs.{needs}
 use Rattle.report.proofs.pairs_lent.Statement.{statement}
 use Rattle.report.proofs.pairs_lent.Tie as tie
-use Rattle.report.proofs.pairs_lent.Reads as reads
-use Rattle.report.proofs.pairs_lent.Lts as lts
-use Rattle.report.proofs.lesser.Reads as lesser-reads
 
 lesser-requires : tie.Need-lesser-requires
 lesser-requires c κs = search needs

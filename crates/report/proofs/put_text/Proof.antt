@@ -2,12 +2,6 @@ use Rattle.report.proofs.Texts.{text-refused, text-within, text-follows
 use borrow.Author.Needs.{needs}
 use Rattle.report.proofs.put_text.Statement.{statement}
 use Rattle.report.proofs.put_text.Tie as tie
-use Rattle.report.proofs.put_text.Reads as reads
-use Rattle.report.proofs.put_text.Lts as lts
-use Rattle.emit.proofs.put.Reads as put-reads
-use Rattle.report.proofs.refuse.Reads as refuse-reads
-use Rattle.report.proofs.six_lines.Reads as six-lines-reads
-use Rattle.report.proofs.labels.write_text.Reads as write-text-reads
 
 write-text-requires : tie.Need-write-text-requires
 write-text-requires c κs = search needs

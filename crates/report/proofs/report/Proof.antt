@@ -3,12 +3,6 @@ use Rattle.report.proofs.Whole.{holds-both, reading-refused, report-mad
 use borrow.Author.Needs.{needs}
 use Rattle.report.proofs.report.Statement.{statement}
 use Rattle.report.proofs.report.Tie as tie
-use Rattle.report.proofs.report.Reads as reads
-use Rattle.report.proofs.report.Lts as lts
-use Rattle.report.proofs.printout.refusal_line.Reads as refusal-line-reads
-use Rattle.reader.proofs.read_together.Reads as read-together-reads
-use Rattle.report.proofs.clear_if.Reads as clear-if-reads
-use Rattle.report.proofs.make_in.Reads as make-in-reads
 
 read-together-requires : tie.Need-read-together-requires
 read-together-requires c κs = search needs

@@ -2,11 +2,6 @@ use Rattle.report.proofs.Made.{tell-yes, tell-none, tell-refused}
 use borrow.Author.Needs.{needs}
 use Rattle.report.proofs.tell.Statement.{statement}
 use Rattle.report.proofs.tell.Tie as tie
-use Rattle.report.proofs.tell.Reads as reads
-use Rattle.report.proofs.tell.Lts as lts
-use Rattle.report.proofs.refuse.Reads as refuse-reads
-use Rattle.report.proofs.six_lines.Reads as six-lines-reads
-use Rattle.report.proofs.with_text.Reads as with-text-reads
 
 enum-known-reply : tie.Need-enum-known-reply
 enum-known-reply c = search needs

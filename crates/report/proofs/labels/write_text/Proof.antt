@@ -2,10 +2,6 @@ use Rattle.report.proofs.SignalNames.{written-named}
 use borrow.Author.Needs.{needs}
 use Rattle.report.proofs.labels.write_text.Statement.{statement}
 use Rattle.report.proofs.labels.write_text.Tie as tie
-use Rattle.report.proofs.labels.write_text.Reads as reads
-use Rattle.report.proofs.labels.write_text.Lts as lts
-use Rattle.reader.proofs.lookup.name.Reads as name-reads
-use Rattle.writer.proofs.write.Reads as write-reads
 
 name-requires : tie.Need-name-requires
 name-requires c κs = search needs

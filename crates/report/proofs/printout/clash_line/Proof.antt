@@ -3,9 +3,6 @@ use Rattle.report.proofs.LineLengths.{clash-ends}
 use borrow.Author.Needs.{needs}
 use Rattle.report.proofs.printout.clash_line.Statement.{statement}
 use Rattle.report.proofs.printout.clash_line.Tie as tie
-use Rattle.report.proofs.printout.clash_line.Reads as reads
-use Rattle.report.proofs.printout.clash_line.Lts as lts
-use Rattle.emit.proofs.number.Reads as number-reads
 
 cast-number : tie.Need-cast-number
 cast-number c = search needs

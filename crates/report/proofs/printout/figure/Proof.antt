@@ -2,10 +2,6 @@ use Rattle.report.proofs.Lines.{figure-put}
 use borrow.Author.Needs.{needs}
 use Rattle.report.proofs.printout.figure.Statement.{statement}
 use Rattle.report.proofs.printout.figure.Tie as tie
-use Rattle.report.proofs.printout.figure.Reads as reads
-use Rattle.report.proofs.printout.figure.Lts as lts
-use Rattle.emit.proofs.field.Reads as field-reads
-use Rattle.emit.proofs.number.Reads as number-reads
 
 field-requires : tie.Need-field-requires
 field-requires c κs = search needs

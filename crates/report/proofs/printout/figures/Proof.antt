@@ -2,10 +2,6 @@ use Rattle.report.proofs.Lines.{figures-put}
 use borrow.Author.Needs.{needs}
 use Rattle.report.proofs.printout.figures.Statement.{statement}
 use Rattle.report.proofs.printout.figures.Tie as tie
-use Rattle.report.proofs.printout.figures.Reads as reads
-use Rattle.report.proofs.printout.figures.Lts as lts
-use Rattle.report.proofs.printout.figure.Reads as figure-reads
-use Rattle.report.proofs.printout.verdict.Reads as verdict-reads
 
 verdict-requires : tie.Need-verdict-requires
 verdict-requires c κs = search needs

@@ -3,10 +3,6 @@ use Rattle.report.proofs.LineLengths.{refusal-ends}
 use borrow.Author.Needs.{needs}
 use Rattle.report.proofs.printout.refusal_line.Statement.{statement}
 use Rattle.report.proofs.printout.refusal_line.Tie as tie
-use Rattle.report.proofs.printout.refusal_line.Reads as reads
-use Rattle.report.proofs.printout.refusal_line.Lts as lts
-use Rattle.emit.proofs.field.Reads as field-reads
-use Rattle.emit.proofs.number.Reads as number-reads
 
 slice-aggregate-field : tie.Need-slice-aggregate-field
 slice-aggregate-field c = search needs

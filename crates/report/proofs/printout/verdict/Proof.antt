@@ -2,9 +2,6 @@ use Rattle.report.proofs.Lines.{verdict-yes, verdict-none}
 use borrow.Author.Needs.{needs}
 use Rattle.report.proofs.printout.verdict.Statement.{statement}
 use Rattle.report.proofs.printout.verdict.Tie as tie
-use Rattle.report.proofs.printout.verdict.Reads as reads
-use Rattle.report.proofs.printout.verdict.Lts as lts
-use Rattle.emit.proofs.field.Reads as field-reads
 
 slice-aggregate-field : tie.Need-slice-aggregate-field
 slice-aggregate-field c = search needs

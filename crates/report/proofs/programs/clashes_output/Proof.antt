@@ -1,12 +1,7 @@
-use Rattle.report.proofs.Programs.{list-first-unread, list-second-unread, list-both-read}
+use Rattle.report.proofs.Files.{list-first-unread, list-second-unread, list-both-read}
 use borrow.Author.Needs.{needs}
-use Rattle.report.proofs.program.clashes.Statement.{statement}
-use Rattle.report.proofs.program.clashes.Tie as tie
-use Rattle.report.proofs.program.clashes.Reads as reads
-use Rattle.report.proofs.program.clashes.Lts as lts
-use Rattle.report.proofs.listing.list.Reads as list-reads
-use Rattle.report.proofs.printout.refusal_line.Reads as refusal-line-reads
-use Rattle.lines.proofs.scan.before.Reads as before-reads
+use Rattle.report.proofs.programs.clashes_output.Statement.{statement}
+use Rattle.report.proofs.programs.clashes_output.Tie as tie
 
 enum-known-first : tie.Need-enum-known-first
 enum-known-first c = search needs
@@ -69,8 +64,8 @@ returns-3 c =
     list-both-read _ _ _ _ _ _ _ _ _ _ _ (s .before .before .before .first .given .1) (s .second .given .1) _ _ (q .before .before2 .ensures .0)
     (q .before3 .ensures .0) _ _ (f .list .ensures)
 
-pub clashes-spec : {M : Type 1} → statement M
-clashes-spec =
+pub clashes-output-spec : {M : Type 1} → statement M
+clashes-output-spec =
     tie.close
     (tie.spec
     enum-known-first

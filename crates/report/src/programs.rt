@@ -11,7 +11,7 @@ use files::File;
 
 // Writes all that the program prints, by the results of reading its two files: refusal 24 for the first unreadable one, else the report. Each text
 // stands at the start of its buffer. Returns the place after it, 65,608 at most.
-pub fn program<'a>(
+pub fn sequencer_output<'a>(
     first: File,
     second: File,
     m: &'a [u8],
@@ -40,7 +40,7 @@ pub fn program<'a>(
 
 // Writes all that the lister of clashes prints, by the results of reading its two files: refusal 24 for the first unreadable one, else the list.
 // Each text stands at the start of its buffer. Returns the place after it, 768 at most.
-pub fn clashes<'a>(
+pub fn clashes_output<'a>(
     first: File,
     second: File,
     m: &'a [u8],

@@ -1,12 +1,7 @@
-use Rattle.report.proofs.Programs.{first-unread, second-unread, both-read}
+use Rattle.report.proofs.Files.{first-unread, second-unread, both-read}
 use borrow.Author.Needs.{needs}
-use Rattle.report.proofs.program.program.Statement.{statement}
-use Rattle.report.proofs.program.program.Tie as tie
-use Rattle.report.proofs.program.program.Reads as reads
-use Rattle.report.proofs.program.program.Lts as lts
-use Rattle.report.proofs.printout.refusal_line.Reads as refusal-line-reads
-use Rattle.report.proofs.report.Reads as report-reads
-use Rattle.lines.proofs.scan.before.Reads as before-reads
+use Rattle.report.proofs.programs.sequencer_output.Statement.{statement}
+use Rattle.report.proofs.programs.sequencer_output.Tie as tie
 
 enum-known-first : tie.Need-enum-known-first
 enum-known-first c = search needs
@@ -75,8 +70,8 @@ returns-3 c =
     both-read _ _ _ _ _ _ _ _ _ _ _ _ _ (s .before .before .before .first .given .1) (s .second .given .1) _ _ (q .before .before2 .ensures .0)
     (q .before3 .ensures .0) _ (f .report .ensures)
 
-pub program-spec : {M : Type 1} → statement M
-program-spec =
+pub sequencer-output-spec : {M : Type 1} → statement M
+sequencer-output-spec =
     tie.close
     (tie.spec
     enum-known-first
