@@ -1,21 +1,13 @@
--- A signal in an automaton, and its name in two texts.
+-- A text by its number, and a name in two texts.
 use mathlib.Core.Path.{_≡_, _∙_}
-use mathlib.Core.Bool.{Bool}
-use mathlib.Core.List.{List, []}
+use mathlib.Core.List.{List}
 use Prim.Native.Nat.{ℕ}
 use lib.ListN.{take, drop}
 use borrow.Author.Tests.{eq-eqb, ne-eqb}
-use Rattle.theory.specs.declared.Automaton.{Automaton}
-use Rattle.theory.specs.Table.{declaredSet, member, table}
-use Rattle.theory.proofs.Sets.{member-or}
-use Rattle.theory.proofs.Table.{declared-set}
 use Rattle.lines.specs.Places.{placeIn}
 use Rattle.names.specs.declared.Name.{Name}
 use Rattle.text.specs.Reading.{textOf}
-use Rattle.names.specs.NamePlaces.{isDeclared, nameAt}
-
-pub declared-either : (h : Automaton) (a d : ℕ) (r : Bool) → d ≡ declaredSet h → r ≡ member d a → r ≡ isDeclared h a
-declared-either h a d r e f = f ∙ rw e (declared-set (table h []) a)
+use Rattle.names.specs.NamePlaces.{nameAt}
 
 -- Bytes or places of two texts.
 module _ {A : Type 0} (m p : A) where

@@ -1,18 +1,10 @@
-// Signals of two texts: whether an automaton has one, and its name as a part of one of the texts.
+// Hands back a text by its number, and a name as the part of its text where it stands.
 ghost use mathlib.Core.Path.{_≡_};
 ghost use denote.Ref.{ptr};
 ghost use Rattle.lines.specs.Places.{placeIn};
 ghost use Rattle.text.specs.Reading.{textOf};
-ghost use Rattle.names.specs.NamePlaces.{isDeclared, nameAt};
+ghost use Rattle.names.specs.NamePlaces.{nameAt};
 use crate::Name;
-use theory::Automaton;
-
-// Tells whether the signal is an input or an output of the automaton.
-pub fn is_declared(header: Automaton, signal: usize) -> bool
-    ensures { λ r. ⌜ r ≡ isDeclared header signal ⌝ }
-{
-    sets::contains(table::declared(header), signal)
-}
 
 // Returns the text with this number: 2 is the second text, any other number the first.
 pub fn text_of<'a>(m: &'a [u8], p: &'a [u8], text: u32) -> &'a [u8]

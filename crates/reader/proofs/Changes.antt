@@ -23,12 +23,12 @@ use Rattle.text.specs.Reading.{firstMatch, indexOf, withRole, started, declarin
 use Rattle.text.proofs.Names.{index-le}
 use Rattle.text.proofs.Accepted.{with-states}
 use Rattle.names.specs.declared.Name.{Name}
-use Rattle.reader.specs.declared.state.Signals.{Signals}
+use Rattle.names.specs.declared.Names.{Names}
 use Rattle.reader.specs.declared.state.State.{State}
 use Rattle.reader.specs.declared.entries.Advanced.{Advanced}
-use Rattle.names.specs.NamePlaces.{nameAt, isDeclared}
-use Rattle.reader.specs.State.{signalsOf, Fit, Addable, Added, lacking, halted, gone, Sound, Putable, Starts, Declares, Steps}
-use Rattle.reader.proofs.Names.{signals-length}
+use Rattle.names.specs.Numbering.{entriesOf, signalsOf, Fit, position, isOf, withEntry}
+use Rattle.names.proofs.NumberedNames.{signals-length, find-signal, add-signal, add-fit}
+use Rattle.reader.specs.State.{isDeclared, lacking, halted, gone, Entry, Sound, Putable, Starts, Declares, Steps}
 
 false-true : true ≡ false → ⊥
 false-true e = subst T e tt
@@ -64,26 +64,26 @@ module _ (h : Automaton) (role : Role) (a : ℕ) (low : a < 32) where
 
 -- ---- the `table` line
 
-module _ (st : State) (states initial room : ℕ) (ok : Sound st room) where
+module _ (st : State) (states initial room : ℕ) where
   pub start-empty : states ≡ 0 → (r : Advanced) → r ≡ halted 1 st → Starts st states initial room r
   unfolding started
-  start-empty e r f = rw f (record { sound = ok; means = λ m p cells l. simp (eq-eqb states 0 e) })
+  start-empty e r f = rw f (record { sound = λ m p ok. ok; means = λ m p cells l. simp (eq-eqb states 0 e) })
 
   pub start-large : 4096 < states → (r : Advanced) → r ≡ halted 1 st → Starts st states initial room r
   unfolding started
-  start-large h r f = rw f (record { sound = ok; means = λ m p cells l. simp (lt-ltb 4096 states h, or-true) })
+  start-large h r f = rw f (record { sound = λ m p ok. ok; means = λ m p cells l. simp (lt-ltb 4096 states h, or-true) })
 
   module _ (some : states ≡ 0 → ⊥) (few : states ≤ 4096) where
     pub start-outside : states ≤ initial → (r : Advanced) → r ≡ halted 2 st → Starts st states initial room r
     unfolding started
     start-outside h r f =
-        rw f (record { sound = ok; means = λ m p cells l. simp (ne-eqb states 0 some, le-ltb 4096 states few, le-leb states initial h) })
+        rw f (record { sound = λ m p ok. ok; means = λ m p cells l. simp (ne-eqb states 0 some, le-ltb 4096 states few, le-leb states initial h) })
 
     module _ (inside : initial < states) where
       pub start-crowded : room < states * 32 → (r : Advanced) → r ≡ halted 10 st → Starts st states initial room r
       unfolding started
       start-crowded h r f = rw f (record {
-        sound = ok;
+        sound = λ m p ok. ok;
         means = λ m p cells l. simp (ne-eqb states 0 some, le-ltb 4096 states few, lt-leb states initial inside, l, lt-ltb room (states * 32) h);
       })
 
@@ -92,45 +92,54 @@ module _ (st : State) (states initial room : ℕ) (ok : Sound st room) where
           → Starts st states initial room r
       unfolding started
       start-good h x e r f = rw (f, e) (record {
-        sound = record { fit = ok .fit; small = few; wide = h };
+        sound = λ m p ok. record { fit = ok .fit; small = few; wide = h };
         means = λ m p cells l. simp (ne-eqb states 0 some, le-ltb 4096 states few, lt-leb states initial inside, l, le-ltb room (states * 32) h);
       })
 
 -- ---- a declaration
 
-module _ (m p : List ℕ) (st : State) (name : Name) (number : ℕ) (fit : Fit (st .signals))
-    (found : number ≡ indexOf (nameAt m p name) (signalsOf m p (st .signals))) where
-  pub number-le : number ≤ st .signals .count
-  number-le = omega (arith, index-le Exact (nameAt m p name) (signalsOf m p (st .signals)), signals-length m p (st .signals) fit)
+module _ (m p : List ℕ) (st : State) (name : List ℕ) (number : ℕ) (fit : Fit m p (st .signals))
+    (searched : number ≡ position (isOf m p Exact name) (entriesOf (st .signals))) where
+  found : number ≡ indexOf name (signalsOf m p (st .signals))
+  found = searched ∙ find-signal m p (st .signals) fit Exact name
 
-  pub addable : number < 32 → Addable (st .signals) number
-  addable h = record { fit = fit; at-most = number-le; below = h }
+  number-le : number ≤ st .signals .count
+  number-le = omega (arith, found, index-le Exact name (signalsOf m p (st .signals)), signals-length m p (st .signals) fit)
 
-  module _ (c : Spelling) (role : Role) (room : ℕ) (ok : Sound st room) (r : Bool) (told : r ≡ isDeclared (st .header) number) where
-    pub declare-twice : r ≡ true → (x : Advanced) → x ≡ halted 18 st → Declares m p c st role name room x
+  module _ (c : Spelling) (role : Role) (entry : Name) (ok : Entry m p name entry) (r : Bool) (told : r ≡ isDeclared (st .header) number) where
+    pub declare-twice : r ≡ true → (x : Advanced) → x ≡ halted 18 st → Declares m p c st role name entry x
     unfolding declaring
-    declare-twice e x f = rw f (record { sound = ok; means = λ cells. rw (← found, ← told, e) })
+    declare-twice e x f = rw f (record { sound = λ room k. k; means = λ cells. rw (← found, ← told, e) })
 
-    module _ (new : r ≡ false) (match : ℕ) (matched : match ≡ firstMatch c (nameAt m p name) (signalsOf m p (st .signals))) where
-      pub declare-clash : match < number → (x : Advanced) → x ≡ halted 28 st → Declares m p c st role name room x
+    module _ (new : r ≡ false) (match : ℕ) (looked : match ≡ position (isOf m p c name) (entriesOf (st .signals))) where
+      matched : match ≡ firstMatch c name (signalsOf m p (st .signals))
+      matched = looked ∙ find-signal m p (st .signals) fit c name
+
+      pub declare-clash : match < number → (x : Advanced) → x ≡ halted 28 st → Declares m p c st role name entry x
       unfolding declaring
-      declare-clash h x f = rw f (record { sound = ok; means = λ cells. rw (← found, ← told, new, ← matched, lt-ltb match number h) })
+      declare-clash h x f = rw f (record { sound = λ room k. k; means = λ cells. rw (← found, ← told, new, ok .bytes, ← matched, lt-ltb match number h) })
 
-      pub declare-many : number ≤ match → 32 ≤ number → (x : Advanced) → x ≡ halted 21 st → Declares m p c st role name room x
+      pub declare-many : number ≤ match → 32 ≤ number → (x : Advanced) → x ≡ halted 21 st → Declares m p c st role name entry x
       unfolding declaring
-      declare-many g h x f = rw f (record { sound = ok; means = λ cells. rw (← found, ← told, new, ← matched, le-ltb match number g, le-leb 32 number h) })
+      declare-many g h x f =
+          rw f (record { sound = λ room k. k; means = λ cells. rw (← found, ← told, new, ok .bytes, ← matched, le-ltb match number g, le-leb 32 number h) })
 
-      pub declare-good : number ≤ match → number < 32 → (h : Automaton) (s : Signals) → h ≡ withRole role number (st .header) → Added (st .signals) name number s
-          → (x : Advanced) → x ≡ gone (record { place = Declarations; header = h; signals = s }) → Declares m p c st role name room x
+      pub declare-good : number ≤ match → number < 32 → (h : Automaton) (s : Names) → h ≡ withRole role number (st .header) → s ≡ withEntry (st .signals) entry number
+          → (x : Advanced) → x ≡ gone (record { place = Declarations; header = h; signals = s }) → Declares m p c st role name entry x
       unfolding declaring
       declare-good g k h s e a x f = rw f (record {
-        sound = record { fit = a .fit; small = rw (e, with-states role number (st .header)) (ok .small); wide = rw (e, with-states role number (st .header)) (ok .wide) };
-        means = λ cells. rw (← found, ← told, new, ← matched, le-ltb match number g, lt-leb 32 number k, e, a .means m p);
+        sound = λ room old. record {
+          fit = rw a (add-fit m p (st .signals) fit entry (ok .placed) number number-le k);
+          small = rw (e, with-states role number (st .header)) (old .small);
+          wide = rw (e, with-states role number (st .header)) (old .wide);
+        };
+        means = λ cells.
+            rw (← found, ← told, new, ok .bytes, ← matched, le-ltb match number g, lt-leb 32 number k, e, a, add-signal m p (st .signals) fit entry (ok .placed) number number-le k, ok .bytes);
       })
 
   -- ---- a step
 
-  module _ (cells : List ℕ) (from to : ℕ) (ok : Sound st (length cells)) (r : Bool) (told : r ≡ lacking (st .header) from number to) where
+  module _ (cells : List ℕ) (from to : ℕ) (ok : Sound m p st (length cells)) (r : Bool) (told : r ≡ lacking (st .header) from number to) where
     pub step-lacking : r ≡ true → (x : Advanced) → x ≡ halted 19 st → Steps m p st cells from name to x cells
     unfolding stepping
     step-lacking e x f = rw f (record { sound = ok; means = rw (← found, ← told, e) })

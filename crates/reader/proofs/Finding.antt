@@ -20,25 +20,31 @@ use Rattle.text.specs.Reading.{readAlone, readBoth}
 use Rattle.text.specs.Lookup.{nobody}
 use Rattle.text.proofs.Accepted.{accepted-alone, accepted-both}
 use Rattle.names.specs.declared.Name.{Name}
-use Rattle.reader.specs.declared.state.Signals.{Signals}
+use Rattle.names.specs.declared.Names.{Names}
 use Rattle.reader.specs.declared.state.Told.{Told}
 use Rattle.reader.specs.declared.state.Both.{Both}
-use Rattle.names.specs.NamePlaces.{nameAt, isDeclared}
-use Rattle.reader.specs.State.{signalAt, signalsOf, ReadsOne, ReadsBoth}
-use Rattle.reader.proofs.Names.{signals-length, signal-at}
+use Rattle.names.specs.NamePlaces.{nameAt}
+use Rattle.names.specs.Numbering.{signalAt, signalsOf}
+use Rattle.names.proofs.NumberedNames.{signals-length, signal-at}
+use Rattle.reader.specs.State.{isDeclared, ReadsOne, ReadsBoth}
 use Rattle.reader.proofs.Meaning.{alone-ended, alone-finished, both-ended, both-finished}
 use Rattle.reader.specs.declared.Found.{Found}
 use Rattle.reader.specs.Places.{placed, foundIn, foundAloneIn, Held}
 
 -- ---- the place of a name
 
-pub place-held : (m p : List ℕ) (s : Signals) (a : ℕ) → Held s a → (d n : Name) → n ≡ getD (s .names) a d → (b : List ℕ) → b ≡ nameAt m p n
+pub place-held : (m p : List ℕ) (s : Names) (a : ℕ) → Held m p s a → (d n : Name) → n ≡ getD (s .entries) a d → (b : List ℕ) → b ≡ nameAt m p n
     → _≡_ {A = Found} (record { number = 0; text = n .text; from = n .from; length = length b }) (placed (getD (signalsOf m p s) a nobody) 0)
 place-held m p s a held d n here b f =
     let signal : getD (signalsOf m p s) a nobody ≡ signalAt m p n =
     any-default (signalsOf m p s) a nobody (signalAt m p d) (omega (arith, held .below, signals-length m p s (held .fit)))
     ∙ signal-at m p s (held .fit) d a (held .below) ∙ ap (signalAt m p) (sym here) in
     rw (signal, f)
+
+-- ---- whether a signal is declared
+
+pub declared-either : (h : Automaton) (a d : ℕ) (r : Bool) → d ≡ declaredSet h → r ≡ member d a → r ≡ isDeclared h a
+declared-either h a d r e f = f ∙ rw e (declared-set (table h []) a)
 
 -- ---- two texts
 
@@ -56,7 +62,7 @@ module _ (m p : List ℕ) (c : Spelling) (room room′ : ℕ) (t : Both) (cells 
     found-undeclared g f = subst (λ j. r ≡ foundIn j a) (both-finished m p c room room′ t cells cells′ read e) (f ∙ rw (← told, not-true d g))
 
     module _ (g : not d ≡ false) where
-      pub held-both : Held (t .second .signals) a
+      pub held-both : Held m p (t .second .signals) a
       held-both =
           let ok = accepted-both c room m room′ p _ _ (sym (both-finished m p c room room′ t cells cells′ read e)) in
           let many : length (signalsOf m p (t .second .signals)) ≡ t .second .signals .count = signals-length m p (t .second .signals) (read .fit) in
@@ -84,7 +90,7 @@ module _ (m : List ℕ) (c : Spelling) (room : ℕ) (t : Told) (cells : List ℕ
     alone-undeclared g f = subst (λ o. r ≡ foundAloneIn o a) (alone-finished m c room t cells read e) (f ∙ rw (← told, not-true d g))
 
     module _ (g : not d ≡ false) where
-      pub held-alone : Held (t .state .signals) a
+      pub held-alone : Held m m (t .state .signals) a
       held-alone =
           let ok = accepted-alone c room m _ (sym (alone-finished m c room t cells read e)) in
           record {

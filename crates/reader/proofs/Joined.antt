@@ -3,52 +3,49 @@ use mathlib.Core.Path.{_≡_, refl, sym, ap, _∙_}
 use mathlib.Core.Bool.{Bool, true, false, cond}
 use mathlib.Core.List.{List, []}
 use Prim.Native.Nat.{ℕ}
-use lib.ListN.{length, replicate, length-replicate}
+use lib.ListN.{length, replicate}
 use Rattle.text.specs.declared.Spelling.{Spelling}
 use Rattle.text.specs.Reading.{finished, ended, both, neither, afterFirst, afterSecond, readAlone, readBoth}
-use Rattle.reader.specs.declared.state.Signals.{Signals}
+use Rattle.names.specs.declared.Names.{Names}
+use Rattle.names.specs.Numbering.{tableOf}
+use Rattle.names.proofs.NumberedNames.{none-signals}
 use Rattle.reader.specs.declared.state.Told.{Told}
 use Rattle.reader.specs.declared.state.Both.{Both}
-use Rattle.reader.specs.State.{signalsOf, Fit, Nobody, reading, outcome, Blank, Reads, ReadsOne, joined, ReadsBoth}
+use Rattle.reader.specs.State.{reading, outcome, joint, Reads, ReadsOne, joined, ReadsBoth}
 
-pub cleared : (s : Signals) (was cells : List ℕ) → Fit s → cells ≡ replicate (length was) 65535 → Blank s cells
-cleared s was cells h e =
-    let n : length cells ≡ length was = ap length e ∙ length-replicate {A = ℕ} (length was) 65535 in
-    record { fit = h; blank = e ∙ ap (λ k. replicate k 65535) (sym n) }
-
-no-signal : (m p : List ℕ) (s : Signals) → Nobody s → signalsOf m p s ≡ []
-unfolding signalsOf
-no-signal m p s n = rw (n .none)
-
-module _ (m p : List ℕ) (c : Spelling) (none : Signals) (n : Nobody none) (room : ℕ) (a : Told) (cells : List ℕ) (read : Reads m p 1 c none room a cells) where
+module _ (m p : List ℕ) (c : Spelling) (none : Names) (n : none ≡ tableOf []) (room : ℕ) (a : Told) (cells : List ℕ) (read : Reads m p 1 c none room a cells) where
   -- The first text.
   alone-outcome : outcome m p a cells ≡ readAlone c room m
   unfolding readAlone
-  alone-outcome = read .means ∙ rw (no-signal m p none n)
+  alone-outcome = read .means ∙ rw (n, none-signals m p)
 
-  module _ (room′ : ℕ) where
-    pub both-first : a .refused ≡ true → (r : Both) → r ≡ joined a a → (cells′ : List ℕ) → ReadsBoth m p c room room′ r cells cells′
-    unfolding readBoth
-    both-first e r f cells′ = rw f (record {
-      fit = read .fit;
-      means = rw e (ap (afterFirst c room′ p) (let x : ended (a .refusal) ≡ readAlone c room m = simp e at alone-outcome in x));
-    })
+  -- A refused text leaves both tables without steps.
+  pub both-first : a .refused ≡ true → (r : Both) → r ≡ joined a a → (was cells′ : List ℕ) → cells′ ≡ replicate (length was) 65535
+      → ReadsBoth m p c room (length was) r cells cells′
+  unfolding readBoth
+  both-first e r f was cells′ g = rw f (record {
+    fit = read .fit;
+    means = rw e (ap (afterFirst c (length was) p) (let x : ended (a .refusal) ≡ readAlone c room m = simp e at alone-outcome in x));
+    left = λ _. (read .left e, g);
+  })
 
-    pub both-second : a .refused ≡ false → (b : Told) (cells′ : List ℕ) → Reads m p 2 c (a .state .signals) room′ b cells′ → (r : Both) → r ≡ joined a b
-        → ReadsBoth m p c room room′ r cells cells′
-    unfolding readBoth
-    both-second e b cells′ d r f = rw f (record {
-      fit = d .fit;
-      means =
-          second (b .refused)
-          ∙ ap (afterSecond (reading m p (a .state) cells)) (d .means)
-          ∙ ap (afterFirst c room′ p) (let x : finished (reading m p (a .state) cells) ≡ readAlone c room m = simp e at alone-outcome in x);
-    })
-      where
-        second : (v : Bool) → cond v (neither (b .refusal)) (both (reading m p (a .state) cells) (reading m p (b .state) cells′))
-            ≡ afterSecond (reading m p (a .state) cells) (cond v (ended (b .refusal)) (finished (reading m p (b .state) cells′)))
-        second true = refl
-        second false = refl
+  pub both-second : a .refused ≡ false → (room′ : ℕ) (b : Told) (cells′ : List ℕ) → Reads m p 2 c (a .state .signals) room′ b cells′ → (r : Both) → r ≡ joined a b
+      → length cells ≡ room → (now : List ℕ) → now ≡ cond (b .refused) (replicate (length cells) 65535) cells → ReadsBoth m p c room room′ r now cells′
+  unfolding readBoth
+  both-second e room′ b cells′ d r f size now g = rw f (record {
+    fit = d .fit;
+    means =
+        ap (λ x. joint m p (joined a b) x cells′) g ∙ second (b .refused)
+        ∙ ap (afterSecond (reading m p (a .state) cells)) (d .means)
+        ∙ ap (afterFirst c room′ p) (let x : finished (reading m p (a .state) cells) ≡ readAlone c room m = simp e at alone-outcome in x);
+    left = λ h. (g ∙ rw (h, size), d .left h);
+  })
+    where
+      second : (v : Bool)
+          → cond v (neither (b .refusal)) (both (reading m p (a .state) (cond v (replicate (length cells) 65535) cells)) (reading m p (b .state) cells′))
+          ≡ afterSecond (reading m p (a .state) cells) (cond v (ended (b .refusal)) (finished (reading m p (b .state) cells′)))
+      second true = refl
+      second false = refl
 
-pub reads-one : (m : List ℕ) (c : Spelling) (none : Signals) → Nobody none → (room : ℕ) (a : Told) (cells : List ℕ) → Reads m m 1 c none room a cells → ReadsOne m c room a cells
-reads-one m c none n room a cells read = record { fit = read .fit; means = alone-outcome m m c none n room a cells read }
+pub reads-one : (m : List ℕ) (c : Spelling) (none : Names) → none ≡ tableOf [] → (room : ℕ) (a : Told) (cells : List ℕ) → Reads m m 1 c none room a cells → ReadsOne m c room a cells
+reads-one m c none n room a cells read = record { fit = read .fit; means = alone-outcome m m c none n room a cells read; left = read .left }

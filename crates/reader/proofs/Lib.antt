@@ -1,4 +1,3 @@
-pub mod Names
 pub mod Changes
 pub mod Lines
 pub mod Entering

@@ -5,7 +5,7 @@ use Prim.Native.Nat.{ℕ, zero, suc, _+_, _-_, _<_, _≤_}
 use native.Mathlib.Numerals.{add-one}
 use native.Mathlib.Omega.{arith}
 use lib.ListN.{length, take, drop}
-use lib.Seq.{drop-cons, drop-drop, take-nil, take-take}
+use lib.Seq.{drop-cons, drop-drop, take-nil}
 use Rattle.text.specs.declared.Spelling.{Spelling}
 use Rattle.text.specs.Fields.{upto, split}
 use Rattle.text.specs.Lines.{parse}
@@ -20,16 +20,9 @@ drop-take (suc k) zero l = rw (let z : 0 - suc k ≡ 0 = omega arith in z)
 drop-take (suc k) (suc e) [] = sym (take-nil (suc e - suc k))
 drop-take (suc k) (suc e) (x ∷ l) = drop-take k e l ∙ rw (let z : suc e - suc k ≡ e - k = omega arith in z)
 
-module _ (bytes : List ℕ) (at end : ℕ) where
-  -- What follows k bytes of a line.
-  pub part-rest : (k : ℕ) → drop k (take (end - at) (drop at bytes)) ≡ take (end - (at + k)) (drop (at + k) bytes)
-  part-rest k =
-      let z : end - at - k ≡ end - (at + k) = omega arith in
-      drop-take k (end - at) (drop at bytes) ∙ rw (drop-drop k at bytes, z)
-
-  -- A part of a line.
-  pub part-part : (a e : ℕ) → a ≤ e → e ≤ end - at → take (e - a) (drop a (take (end - at) (drop at bytes))) ≡ take (e - a) (drop (at + a) bytes)
-  part-part a e h g = ap (take (e - a)) (part-rest a) ∙ take-take (e - a) (end - (at + a)) (drop (at + a) bytes) (omega arith)
+-- What follows k bytes of a part of e bytes.
+pub part-rest : (bytes : List ℕ) (at e k : ℕ) → drop k (take e (drop at bytes)) ≡ take (e - k) (drop (at + k) bytes)
+part-rest bytes at e k = drop-take k e (drop at bytes) ∙ rw (drop-drop k at bytes)
 
 -- ---- the lines from the k-th on, which begins at the byte `at` and is e bytes long
 

@@ -23,11 +23,12 @@ use Rattle.names.specs.declared.Name.{Name}
 use Rattle.names.specs.NamePlaces.{nameAt}
 use Rattle.reader.specs.declared.ClashList.{ClashList}
 use Rattle.reader.specs.declared.Listing.{Listing}
-use Rattle.reader.specs.declared.state.Signals.{Signals}
+use Rattle.names.specs.declared.Names.{Names}
 use Rattle.reader.specs.declared.state.Both.{Both}
-use Rattle.reader.specs.State.{signalAt, signalsOf, Fit, ReadsBoth}
+use Rattle.names.specs.Numbering.{entriesOf, signalAt, signalsOf, Fit, position, isOf}
+use Rattle.names.proofs.NumberedNames.{set-behind, signals-length, signal-at, find-signal}
+use Rattle.reader.specs.State.{ReadsBoth}
 use Rattle.reader.specs.Clashes.{unused, inRows, listing, ends, withClash, clashesBelow, Visitable}
-use Rattle.reader.proofs.Names.{signals-length, signal-at, index-found, index-next}
 use Rattle.reader.proofs.Meaning.{both-ended, both-finished}
 
 -- ---- lines
@@ -75,19 +76,15 @@ those-last f s (suc n) =
     go false l m = refl
 
 -- A row that is not used is free for the next clash.
-set-behind : (l : List Clash) (k : ℕ) (x : Clash) → set (l ++ replicate (suc k) unused) (length l) x ≡ (l ++ x ∷ []) ++ replicate k unused
-set-behind [] k x = refl
-set-behind (y ∷ l) k x = ap (λ r. y ∷ r) (set-behind l k x)
-
 in-rows-more : (l : List Clash) (x : Clash) → length l < 32
     → _≡_ {A = ClashList} (record { rows = set (l ++ replicate (32 - length l) unused) (length l) x; count = length l + 1 }) (inRows (l ++ x ∷ []))
 in-rows-more l x h =
     let n : length (l ++ x ∷ []) ≡ length l + 1 = length-append l (x ∷ []) in
     let k : 32 - length l ≡ suc (32 - (length l + 1)) = omega arith in
-    rw (n, k, set-behind l (32 - (length l + 1)) x)
+    rw (n, k, set-behind unused l (32 - (length l + 1)) x)
 
 -- The signal i, which has a number, where the clashes of those below it are found.
-module _ (m p : List ℕ) (s : Signals) (i : ℕ) (c : ClashList) (v : Visitable m p s i c) where
+module _ (m p : List ℕ) (s : Names) (i : ℕ) (c : ClashList) (v : Visitable m p s i c) where
   abbrev signals : List Signal
   signals = signalsOf m p s
 
@@ -98,10 +95,10 @@ module _ (m p : List ℕ) (s : Signals) (i : ℕ) (c : ClashList) (v : Visitable
   unfolding clashesBelow
   few = omega (arith, length-map (those (λ a. ltb (firstAlike signals a) a) 0 i) (clashAt m p signals), those-few (λ a. ltb (firstAlike signals a) a) 0 i)
 
-  row-free : c .count < 32
-  row-free = omega (arith, ap (λ x. x .count) (v .done), few, v .below, v .fit .few)
+  pub row-room : c .count < 32
+  row-room = omega (arith, ap (λ x. x .count) (v .done), few, v .below, v .fit .few)
 
-  signal-of : (d : Name) (a : ℕ) → a < s .count → getD signals a nobody ≡ signalAt m p (getD (s .names) a d)
+  signal-of : (d : Name) (a : ℕ) → a < s .count → getD signals a nobody ≡ signalAt m p (getD (s .entries) a d)
   signal-of d a h = any-default signals a nobody (signalAt m p d) (omega (arith, h, signals-length m p s (v .fit))) ∙ signal-at m p s (v .fit) d a h
 
   next-found : clashesBelow m p signals (i + 1) ≡ found ++ map (clashAt m p signals) (cond (ltb (firstAlike signals i) i) (i ∷ []) [])
@@ -122,73 +119,31 @@ module _ (m p : List ℕ) (s : Signals) (i : ℕ) (c : ClashList) (v : Visitable
       ap (λ b. map (clashAt m p signals) (cond b (i ∷ []) [])) (lt-ltb (firstAlike signals i) i h) in
       sym (next-found ∙ ap (λ l. found ++ l) e)
 
-  module _ (name : Name) (here : getD signals i nobody ≡ signalAt m p name) (alike : ℕ) (first-alike : alike ≡ firstMatch Folded (nameAt m p name) signals) where
-    alike-here : firstAlike signals i ≡ alike
-    alike-here = ap (λ x. firstMatch Folded (x .name) signals) here ∙ sym first-alike
+  module _ (d name : Name) (there : name ≡ getD (s .entries) i d) (wanted : List ℕ) (bytes : wanted ≡ nameAt m p name)
+      (alike : ℕ) (searched : alike ≡ position (isOf m p Folded wanted) (entriesOf s)) where
+    here : getD signals i nobody ≡ signalAt m p name
+    here = signal-of d i (v .below) ∙ ap (signalAt m p) (sym there)
 
-    visit-pass : i ≤ alike → c ≡ inRows (clashesBelow m p signals (i + 1))
+    alike-here : firstAlike signals i ≡ alike
+    alike-here =
+        let first : alike ≡ firstMatch Folded (nameAt m p name) signals = searched ∙ find-signal m p s (v .fit) Folded wanted ∙ rw bytes in
+        ap (λ x. firstMatch Folded (x .name) signals) here ∙ sym first
+
+    pub visit-pass : i ≤ alike → c ≡ inRows (clashesBelow m p signals (i + 1))
     visit-pass h = v .done ∙ ap inRows (next-pass (omega (arith, alike-here)))
 
-    module _ (h : alike < i) (e : Name) (other : Name) (there : other ≡ getD (s .names) alike e) where
-      clash : clashAt m p signals i ≡ record { later = declaredAt m p (signalAt m p name); first = declaredAt m p (signalAt m p other) }
-      clash =
-          let signal-there : getD signals (firstAlike signals i) nobody ≡ signalAt m p other =
-          ap (λ a. getD signals a nobody) alike-here ∙ signal-of e alike (omega (arith, h, v .below)) ∙ ap (signalAt m p) (sym there) in
-          (λ k. record { later = declaredAt m p (here k); first = declaredAt m p (signal-there k) })
-
-      visit-clash : withClash c (declaredAt m p (signalAt m p name)) (declaredAt m p (signalAt m p other)) ≡ inRows (clashesBelow m p signals (i + 1))
-      visit-clash =
-          let more = ap (λ x. found ++ x ∷ []) (sym clash) ∙ next-clash (omega (arith, alike-here)) in
-          rw (v .done) (in-rows-more found _ (omega (arith, few, v .below, v .fit .few)) ∙ ap inRows more)
-
--- While the names before that of the signal i are held against it: none below j matches.
-pub record Searching (m p : List ℕ) (s : Signals) (i : ℕ) (c : ClashList) (name : Name) (wanted : List ℕ) (j : ℕ) : Type 0 where
-  pub visitable : Visitable m p s i c
-  pub within : j ≤ i
-  pub here : getD (signalsOf m p s) i nobody ≡ signalAt m p name
-  pub bytes : wanted ≡ nameAt m p name
-  pub before : j + firstMatch Folded wanted (drop j (signalsOf m p s)) ≡ firstMatch Folded wanted (signalsOf m p s)
-
-pub search-start : (m p : List ℕ) (s : Signals) (i : ℕ) (c : ClashList) → Visitable m p s i c → (d name : Name) → name ≡ getD (s .names) i d
-    → (wanted : List ℕ) → wanted ≡ nameAt m p name → Searching m p s i c name wanted 0
-search-start m p s i c v d name e wanted w = record {
-  visitable = v;
-  within = omega arith;
-  here = signal-of m p s i c v d i (v .below) ∙ ap (signalAt m p) (sym e);
-  bytes = w;
-  before = omega arith;
-}
-
-module _ (m p : List ℕ) (s : Signals) (i : ℕ) (c : ClashList) (name : Name) (wanted : List ℕ) (j : ℕ) (g : Searching m p s i c name wanted j) where
-  pub search-room : c .count < 32
-  search-room = row-free m p s i c (g .visitable)
-
-  pub search-done : i ≤ j → c ≡ inRows (clashesBelow m p (signalsOf m p s) (i + 1))
-  search-done h =
-      let last : i ≤ firstMatch Folded (nameAt m p name) (signalsOf m p s) = rw (← g .bytes) (omega (arith, g .before, g .within)) in
-      visit-pass m p s i c (g .visitable) name (g .here) _ refl last
-
-  module _ (h : j < i) (d candidate : Name) (there : candidate ≡ getD (s .names) j d) (r : Bool) (told : r ≡ matches Folded (nameAt m p candidate) wanted) where
-    below : j < s .count
-    below = omega (arith, g .visitable .below)
-
-    pub search-found : r ≡ true → (x : ClashList) → x ≡ withClash c (declaredAt m p (signalAt m p name)) (declaredAt m p (signalAt m p candidate))
-        → x ≡ inRows (clashesBelow m p (signalsOf m p s) (i + 1))
-    search-found e x f =
-        let first = index-found m p s (g .visitable .fit) Folded wanted j (g .before) d below r (rw (← there) told) name (g .bytes) e in
-        f ∙ visit-clash m p s i c (g .visitable) name (g .here) j first h d candidate there
-
-    pub search-next : r ≡ false → Searching m p s i c name wanted (j + 1)
-    search-next e = record {
-      visitable = g .visitable;
-      within = omega arith;
-      here = g .here;
-      bytes = g .bytes;
-      before = index-next m p s (g .visitable .fit) Folded wanted j (g .before) d below r (rw (← there) told) e;
-    }
+    pub visit-clash : alike < i → (e other : Name) → other ≡ getD (s .entries) alike e
+        → (x : ClashList) → x ≡ withClash c (declaredAt m p (signalAt m p name)) (declaredAt m p (signalAt m p other)) → x ≡ inRows (clashesBelow m p signals (i + 1))
+    visit-clash h e other same x f =
+        let signal-there : getD signals (firstAlike signals i) nobody ≡ signalAt m p other =
+        ap (λ a. getD signals a nobody) alike-here ∙ signal-of e alike (omega (arith, h, v .below)) ∙ ap (signalAt m p) (sym same) in
+        let clash : clashAt m p signals i ≡ record { later = declaredAt m p (signalAt m p name); first = declaredAt m p (signalAt m p other) } =
+        (λ k. record { later = declaredAt m p (here k); first = declaredAt m p (signal-there k) }) in
+        let more = ap (λ x. found ++ x ∷ []) (sym clash) ∙ next-clash (omega (arith, alike-here)) in
+        f ∙ rw (v .done) (in-rows-more found _ (omega (arith, few, v .below, v .fit .few)) ∙ ap inRows more)
 
 -- All signals.
-module _ (m p : List ℕ) (s : Signals) (fit : Fit s) where
+module _ (m p : List ℕ) (s : Names) (fit : Fit m p s) where
   pub visit-start : (c : ClashList) → c ≡ inRows [] → c ≡ inRows (clashesBelow m p (signalsOf m p s) 0)
   unfolding clashesBelow those
   visit-start c e = e

@@ -12,8 +12,8 @@ use Rattle.text.specs.Writing.{those}
 use Rattle.text.specs.Clashes.{firstAlike, clashAt, clashesOf}
 use Rattle.reader.specs.declared.ClashList.{ClashList}
 use Rattle.reader.specs.declared.Listing.{Listing}
-use Rattle.reader.specs.declared.state.Signals.{Signals}
-use Rattle.reader.specs.State.{signalsOf, Fit}
+use Rattle.names.specs.declared.Names.{Names}
+use Rattle.names.specs.Numbering.{signalsOf, Fit}
 
 -- A row that is not used.
 abbrev pub unused : Clash
@@ -42,7 +42,7 @@ unfoldable pub clashesBelow : List ℕ → List ℕ → List Signal → ℕ → 
 clashesBelow m p l i = map (clashAt m p l) (those (λ a. ltb (firstAlike l a) a) 0 i)
 
 -- A signal that has a number, after all below it.
-pub record Visitable (m p : List ℕ) (s : Signals) (i : ℕ) (c : ClashList) : Type 0 where
-  pub fit : Fit s
+pub record Visitable (m p : List ℕ) (s : Names) (i : ℕ) (c : ClashList) : Type 0 where
+  pub fit : Fit m p s
   pub below : i < s .count
   pub done : c ≡ inRows (clashesBelow m p (signalsOf m p s) i)

@@ -5,8 +5,8 @@ use lib.ListN.{length}
 use Rattle.text.specs.declared.Spelling.{Spelling}
 use Rattle.text.specs.Reading.{Signal, Outcome, Joint}
 use Rattle.text.specs.Lookup.{signalOf, numberOf, lookup, lookupNumber, signalAlone, numberAlone, lookupAlone, lookupNumberAlone}
-use Rattle.reader.specs.declared.state.Signals.{Signals}
-use Rattle.reader.specs.State.{Fit}
+use Rattle.names.specs.declared.Names.{Names}
+use Rattle.names.specs.Numbering.{Fit}
 use Rattle.reader.specs.declared.Found.{Found}
 
 -- The place of a name, with the number of the refusal, or 0.
@@ -20,8 +20,8 @@ abbrev pub foundAloneIn : Outcome → ℕ → Found
 foundAloneIn o a = placed (signalAlone o a) (numberAlone o a)
 
 -- A signal that has a number.
-pub record Held (s : Signals) (a : ℕ) : Type 0 where
-  pub fit : Fit s
+pub record Held (m p : List ℕ) (s : Names) (a : ℕ) : Type 0 where
+  pub fit : Fit m p s
   pub below : a < s .count
 
 -- ---- with cells enough for any table: so 10 never applies

@@ -7,14 +7,13 @@ ghost use lib.ListN.{length};
 ghost use Rattle.text.specs.declared.Spelling.the-variants.{Exact};
 ghost use Rattle.text.specs.Reading.{readBoth, cellsFirst, cellsSecond};
 ghost use Rattle.text.specs.Clashes.{lineOf, declaredAt, clashesOf};
-ghost use Rattle.reader.specs.State.{signalAt, signalsOf, Fit};
+ghost use Rattle.names.specs.Numbering.{signalAt, signalsOf, Fit};
 ghost use Rattle.reader.specs.Clashes.{inRows, listing, ends, withClash, clashesBelow, Visitable};
 use crate::ClashList;
 use crate::Listing;
-use crate::numbering;
-use crate::state::Signals;
 use crate::texts;
 use names::Name;
+use names::Names;
 use text::Clash;
 use text::Declaration;
 use text::Spelling;
@@ -82,30 +81,23 @@ fn add<'a>(m: &'a [u8], p: &'a [u8], clashes: ClashList, later: Name, first: Nam
     }
 }
 
-// Adds the clash of the signal i, if it has one, to those of the signals below it: with the first of these whose name matches it when case is ignored. It
-// looks for that name itself: with `alike_of` called from here too, the compiler would no longer inline that search into the reading of a line.
-fn visit<'a>(m: &'a [u8], p: &'a [u8], signals: Signals, i: usize, clashes: ClashList) -> ClashList
+// Adds the clash of the signal i, if it has one, to those of the signals below it: with the first of these whose name matches it when case is ignored.
+fn visit<'a>(m: &'a [u8], p: &'a [u8], signals: Names, i: usize, clashes: ClashList) -> ClashList
     requires { ⌜ Visitable (now m) (now p) signals i clashes ⌝ }
     ensures { λ r. ⌜ r ≡ inRows (clashesBelow (now (m .entry)) (now (p .entry)) (signalsOf (now (m .entry)) (now (p .entry)) signals) (i + 1)) ⌝ }
 {
-    let known = signals.names;
-    let name = known[i];
-    let wanted = names::bytes_of(m, p, name);
-    let mut j: usize = 0;
-    while j < i {
-        let names = signals.names;
-        let candidate = names[j];
-        if numbering::is_named(m, p, Spelling::Folded, candidate, wanted) {
-            return add(m, p, clashes, name, candidate);
-        }
-        j += 1;
+    let entries = signals.entries;
+    let name = entries[i];
+    let j = names::find(m, p, Spelling::Folded, signals, names::bytes_of(m, p, name));
+    if j < i {
+        return add(m, p, clashes, name, entries[j]);
     }
     clashes
 }
 
 // Holds each name against those before it.
-fn list<'a>(m: &'a [u8], p: &'a [u8], signals: Signals) -> ClashList
-    requires { ⌜ Fit signals ⌝ }
+fn list<'a>(m: &'a [u8], p: &'a [u8], signals: Names) -> ClashList
+    requires { ⌜ Fit (now m) (now p) signals ⌝ }
     ensures { λ r. ⌜ r ≡ inRows (clashesOf (now (m .entry)) (now (p .entry)) (signalsOf (now (m .entry)) (now (p .entry)) signals)) ⌝ }
 {
     let mut clashes = none();
@@ -138,8 +130,6 @@ pub fn list_clashes<'a>(m: &'a [u8], p: &'a [u8], cm: &mut [u16], cp: &mut [u16]
 {
     let told = texts::read_both(m, p, Spelling::Exact, cm, cp);
     if told.refused {
-        table::clear(cm);
-        table::clear(cp);
         let refusal = told.refusal;
         return refuse(refusal);
     }

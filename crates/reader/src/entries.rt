@@ -5,8 +5,8 @@ ghost use Prim.Native.Nat.{_<_};
 ghost use lib.Dec.{eqb};
 ghost use lib.ListN.{length, getD, set};
 ghost use Rattle.text.specs.Reading.{withRole};
-ghost use Rattle.reader.specs.State.{gone, halted, lacking, Putable, Sound, Starts, Declares, Steps, Enters, Says};
-use crate::numbering;
+ghost use Rattle.names.specs.Numbering.{Fit};
+ghost use Rattle.reader.specs.State.{isDeclared, gone, halted, lacking, Putable, Entry, Sound, Starts, Declares, Steps, Enters, Says};
 use crate::state::State;
 use lines::Record;
 use names::Name;
@@ -22,7 +22,7 @@ pub struct Advanced {
     pub state: State,
 }
 
-// The reading goes on.
+// Goes on with the reading.
 fn go(state: State) -> Advanced
     ensures { λ r. ⌜ r ≡ gone state ⌝ }
 {
@@ -33,7 +33,7 @@ fn go(state: State) -> Advanced
     }
 }
 
-// The reading ends.
+// Ends the reading.
 fn stop(number: u32, state: State) -> Advanced
     ensures { λ r. ⌜ r ≡ halted number state ⌝ }
 {
@@ -44,9 +44,8 @@ fn stop(number: u32, state: State) -> Advanced
     }
 }
 
-// The `table` line: 1, 2, 10; room is the number of lent cells.
+// Starts the automaton that the `table` line says: 1, 2, 10; room is the number of lent cells.
 fn start(st: State, states: usize, initial: usize, room: usize) -> Advanced
-    requires { ⌜ Sound st room ⌝ }
     ensures { λ r. ⌜ Starts st states initial room r ⌝ }
 {
     if states == 0 {
@@ -69,7 +68,7 @@ fn start(st: State, states: usize, initial: usize, room: usize) -> Advanced
     })
 }
 
-// The automaton with the signal in the list of its role.
+// Returns the automaton with the signal in the list of its role.
 fn with_role(header: Automaton, role: Role, signal: usize) -> Automaton
     requires { ⌜ signal < 32 ⌝ }
     ensures { λ r. ⌜ r ≡ withRole role signal header ⌝ }
@@ -90,28 +89,34 @@ fn with_role(header: Automaton, role: Role, signal: usize) -> Automaton
     }
 }
 
-// A declaration: 18, 28, 21. No name below the first that matches is the name itself, so the search for that goes on from there. The room is not read: it is
-// that of the state, by the contract.
+// Tells whether the signal is an input or an output of the automaton.
+pub fn is_declared(header: Automaton, signal: usize) -> bool
+    ensures { λ r. ⌜ r ≡ isDeclared header signal ⌝ }
+{
+    sets::contains(table::declared(header), signal)
+}
+
+// Declares a signal, whose name has this entry: 18, 28, 21.
 fn declare<'a>(
     m: &'a [u8],
     p: &'a [u8],
     spelling: Spelling,
     st: State,
     role: Role,
-    name: Name,
-    room: usize,
+    name: &[u8],
+    entry: Name,
 ) -> Advanced
-    requires { ⌜ Sound st room ⌝ }
-    ensures { λ r. ⌜ Declares (now (m .entry)) (now (p .entry)) spelling st role name room r ⌝ }
+    requires { ⌜ Fit (now m) (now p) (st .signals) ⌝ }
+    requires { ⌜ Entry (now m) (now p) (now name) entry ⌝ }
+    ensures { λ r. ⌜ Declares (now (m .entry)) (now (p .entry)) spelling st role (now (name .entry)) entry r ⌝ }
 {
     let signals = st.signals;
     let header = st.header;
-    let alike = numbering::alike_of(m, p, spelling, signals, name);
-    let number = numbering::number_of(m, p, signals, name, alike);
-    if names::is_declared(header, number) {
+    let number = names::find(m, p, Spelling::Exact, signals, name);
+    if is_declared(header, number) {
         return stop(18, st);
     }
-    if alike < number {
+    if names::find(m, p, spelling, signals, name) < number {
         return stop(28, st);
     }
     if 32 <= number {
@@ -120,7 +125,7 @@ fn declare<'a>(
     go(State {
         place: Place::Declarations,
         header: with_role(header, role, number),
-        signals: numbering::add(signals, name, number),
+        signals: names::add(signals, entry, number),
     })
 }
 
@@ -137,11 +142,11 @@ fn put(cells: &mut [u16], at: usize, to: usize) -> bool
     true
 }
 
-// Whether the automaton lacks a step's signal, its state of departure or its target.
+// Tells whether the automaton lacks a step's signal, its state of departure or its target.
 fn lacks(header: Automaton, from: usize, signal: usize, to: usize) -> bool
     ensures { λ r. ⌜ r ≡ lacking header from signal to ⌝ }
 {
-    if !names::is_declared(header, signal) {
+    if !is_declared(header, signal) {
         return true;
     }
     if header.states <= from {
@@ -150,22 +155,22 @@ fn lacks(header: Automaton, from: usize, signal: usize, to: usize) -> bool
     header.states <= to
 }
 
-// A step of the signal with this name: 19, 20. The lent cells, blank at first, tell a step that was given before.
+// Takes a step by the signal with this name: 19, 20. The lent cells, blank at first, tell a step that was given before.
 fn step<'a>(
     m: &'a [u8],
     p: &'a [u8],
     st: State,
     cells: &mut [u16],
     from: usize,
-    name: Name,
+    name: &[u8],
     to: usize,
 ) -> Advanced
-    requires { ⌜ Sound st (length (now cells)) ⌝ }
-    ensures { λ r. ⌜ Steps (now (m .entry)) (now (p .entry)) st (now (cells .entry)) from name to r (now (cells .exit)) ⌝ }
+    requires { ⌜ Sound (now m) (now p) st (length (now cells)) ⌝ }
+    ensures { λ r. ⌜ Steps (now (m .entry)) (now (p .entry)) st (now (cells .entry)) from (now (name .entry)) to r (now (cells .exit)) ⌝ }
 {
     let signals = st.signals;
     let header = st.header;
-    let number = numbering::number_of(m, p, signals, name, 0);
+    let number = names::find(m, p, Spelling::Exact, signals, name);
     if lacks(header, from, number, to) {
         return stop(19, st);
     }
@@ -179,19 +184,7 @@ fn step<'a>(
     })
 }
 
-// A part of a text as a name.
-fn named(text: u8, from: usize, length: usize) -> Name
-    requires { ⌜ (from < 65536) × (length < 256) ⌝ }
-    ensures { λ r. ⌜ r ≡ record { text = text; length = length; from = from } ⌝ }
-{
-    Name {
-        text,
-        length: length as u8,
-        from: from as u16,
-    }
-}
-
-// Enters the record of the line from byte `at` to byte `end` of the text with number `text`: returns the state after it, and writes the cell of a
+// Enters the record of a line, which begins at the byte `at` of the text with number `text`: returns the state after it, and writes the cell of a
 // step.
 pub fn enter<'a>(
     m: &'a [u8],
@@ -201,19 +194,20 @@ pub fn enter<'a>(
     st: State,
     cells: &mut [u16],
     at: usize,
-    end: usize,
+    line: &[u8],
     fields: Record,
 ) -> Advanced
-    requires { ⌜ Sound st (length (now cells)) ⌝ }
-    requires { ⌜ Says (now m) (now p) text at end (st .place) fields ⌝ }
-    ensures { λ r. ⌜ Enters (now (m .entry)) (now (p .entry)) text spelling at end st (now (cells .entry)) r (now (cells .exit)) ⌝ }
+    requires { ⌜ Sound (now m) (now p) st (length (now cells)) ⌝ }
+    requires { ⌜ Says (now m) (now p) text at (now line) (st .place) fields ⌝ }
+    ensures { λ r. ⌜ Enters (now (m .entry)) (now (p .entry)) text spelling at (now (line .entry)) st (now (cells .entry)) r (now (cells .exit)) ⌝ }
 {
     match fields {
         Record::Table { states, initial } => start(st, states, initial, cells.len()),
         Record::Declaration(role) => {
-            let start = at + lines::name_start(role);
-            let name = named(text, start, end - start);
-            declare(m, p, spelling, st, role, name, cells.len())
+            let start = lines::name_start(role);
+            let name = lines::after(line, start);
+            let entry = names::entry(text, at + start, name);
+            declare(m, p, spelling, st, role, name, entry)
         }
         Record::Step {
             from,
@@ -221,7 +215,7 @@ pub fn enter<'a>(
             end,
             to,
         } => {
-            let name = named(text, at + start, end - start);
+            let name = lines::before(lines::after(line, start), end - start);
             step(m, p, st, cells, from, name, to)
         }
     }

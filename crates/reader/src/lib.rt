@@ -3,8 +3,10 @@
 ghost use mathlib.Core.Path.{_≡_};
 ghost use lib.ListN.{length};
 ghost use Rattle.text.specs.declared.Spelling.the-variants.{Exact, Folded};
-ghost use Rattle.text.specs.Reading.{readAlone, readBoth, cellsAlone, cellsFirst, cellsSecond};
-ghost use Rattle.reader.specs.Replies.{aloneReply, togetherReply};
+ghost use Rattle.text.specs.Reading.{neither, readAlone, readBoth, cellsAlone, cellsFirst, cellsSecond};
+ghost use Rattle.names.specs.Numbering.{signalsOf};
+ghost use Rattle.reader.specs.Replies.{aloneReply, togetherReply, namedReply, signalsRead};
+use names::Names;
 use text::Clash;
 use text::Spelling;
 use text::TextRefusal;
@@ -13,7 +15,6 @@ use theory::Automaton;
 mod clashes;
 mod entries;
 mod lookup;
-mod numbering;
 mod places;
 mod state;
 mod texts;
@@ -41,6 +42,16 @@ pub enum Together {
         specification: Automaton,
     },
     Refused(TextRefusal),
+}
+
+// Reply to two texts read together with their names: the headers of the two automata, whose cells are in the lent buffers, and the table of the names
+// that their signals have; or, if `refused`, why, with headers of no state and no name.
+pub struct NamedTables {
+    pub refused: bool,
+    pub refusal: TextRefusal,
+    pub component: Automaton,
+    pub specification: Automaton,
+    pub names: Names,
 }
 
 // Where a signal's name was first declared: the text (1 the first, 2 the second), the byte at which the name begins, and its length. If the lookup
@@ -72,7 +83,6 @@ fn read_one(m: &[u8], spelling: Spelling, cells: &mut [u16]) -> Alone
 {
     let told = texts::read_one(m, spelling, cells);
     if told.refused {
-        table::clear(cells);
         let refusal = told.refusal;
         return Alone::Refused(refusal);
     }
@@ -112,8 +122,6 @@ fn read_both<'a>(
 {
     let told = texts::read_both(m, p, spelling, cm, cp);
     if told.refused {
-        table::clear(cm);
-        table::clear(cp);
         let refusal = told.refusal;
         return Together::Refused(refusal);
     }
@@ -150,4 +158,48 @@ pub fn read_archive_together<'a>(
     ensures { λ r. ⌜ now (cp .exit) ≡ cellsSecond (length (now (cp .entry))) (readBoth Exact (length (now (cm .entry))) (now (m .entry)) (length (now (cp .entry))) (now (p .entry))) ⌝ }
 {
     read_both(m, p, Spelling::Exact, cm, cp)
+}
+
+// Makes the reply to two texts that are refused.
+fn refuse_named(refusal: TextRefusal) -> NamedTables
+    ensures { λ r. ⌜ r ≡ namedReply (neither refusal) ⌝ }
+{
+    let empty = table::header(0, 0, 0, 0);
+    NamedTables {
+        refused: true,
+        refusal,
+        component: empty,
+        specification: empty,
+        names: names::none(),
+    }
+}
+
+// Reads two texts as `read_together` does, and returns the names of their signals too, so that who needs them does not have to read again.
+pub fn read_named<'a>(m: &'a [u8], p: &'a [u8], cm: &mut [u16], cp: &mut [u16]) -> NamedTables
+    ensures { λ r. ⌜ r ≡ namedReply (readBoth Folded (length (now (cm .entry))) (now (m .entry)) (length (now (cp .entry))) (now (p .entry))) ⌝ }
+    ensures { λ r. ⌜ signalsOf (now (m .entry)) (now (p .entry)) (r .names) ≡ signalsRead (readBoth Folded (length (now (cm .entry))) (now (m .entry)) (length (now (cp .entry))) (now (p .entry))) ⌝ }
+    ensures { λ r. ⌜ now (cm .exit) ≡ cellsFirst (length (now (cm .entry))) (readBoth Folded (length (now (cm .entry))) (now (m .entry)) (length (now (cp .entry))) (now (p .entry))) ⌝ }
+    ensures { λ r. ⌜ now (cp .exit) ≡ cellsSecond (length (now (cp .entry))) (readBoth Folded (length (now (cm .entry))) (now (m .entry)) (length (now (cp .entry))) (now (p .entry))) ⌝ }
+{
+    let told = texts::read_both(m, p, Spelling::Folded, cm, cp);
+    if told.refused {
+        let refusal = told.refusal;
+        return refuse_named(refusal);
+    }
+    let first = told.first;
+    let second = told.second;
+    let component = first.header;
+    let specification = second.header;
+    let names = second.signals;
+    NamedTables {
+        refused: false,
+        refusal: TextRefusal {
+            number: 0,
+            text: 0,
+            line: 0,
+        },
+        component,
+        specification,
+        names,
+    }
 }

@@ -4,12 +4,13 @@ ghost use mathlib.Core.Bool.{_||_};
 ghost use lib.ListN.{length, getD};
 ghost use Rattle.text.specs.Reading.{readAlone, readBoth};
 ghost use Rattle.text.specs.Lookup.{nobody};
-ghost use Rattle.names.specs.NamePlaces.{isDeclared};
-ghost use Rattle.reader.specs.State.{signalsOf};
+ghost use Rattle.names.specs.Numbering.{signalsOf};
+ghost use Rattle.reader.specs.State.{isDeclared};
 ghost use Rattle.reader.specs.Places.{placed, foundIn, foundAloneIn, found, foundAlone, Held};
 use crate::Found;
-use crate::state::Signals;
+use crate::entries;
 use crate::texts;
+use names::Names;
 use text::Spelling;
 use theory::Automaton;
 
@@ -26,12 +27,12 @@ fn nowhere(number: u32) -> Found
 }
 
 // The place of the name of a signal that has a number.
-fn place_of<'a>(m: &'a [u8], p: &'a [u8], signals: Signals, signal: usize) -> Found
-    requires { ⌜ Held signals signal ⌝ }
+fn place_of<'a>(m: &'a [u8], p: &'a [u8], signals: Names, signal: usize) -> Found
+    requires { ⌜ Held (now m) (now p) signals signal ⌝ }
     ensures { λ r. ⌜ r ≡ placed (getD (signalsOf (now (m .entry)) (now (p .entry)) signals) signal nobody) 0 ⌝ }
 {
-    let names = signals.names;
-    let name = names[signal];
+    let entries = signals.entries;
+    let name = entries[signal];
     let from = name.from as usize;
     let bytes = names::bytes_of(m, p, name);
     Found {
@@ -85,7 +86,7 @@ fn find_alone_in(m: &[u8], spelling: Spelling, signal: usize, cells: &mut [u16])
     }
     let state = told.state;
     let signals = state.signals;
-    if !names::is_declared(state.header, signal) {
+    if !entries::is_declared(state.header, signal) {
         return nowhere(12);
     }
     place_of(m, m, signals, signal)

@@ -1,20 +1,14 @@
 // State of a reading between two lines, but for the lent cells; and the results of reading one text and two.
-use names::Name;
+use names::Names;
 use text::Place;
 use text::TextRefusal;
 use theory::Automaton;
-
-// Names of the signals that have a number, by their number: the first `count` entries; the others are not used.
-pub struct Signals {
-    pub names: [Name; 32],
-    pub count: usize,
-}
 
 // What has been read, but for the lent cells: the place of the next line, the header of the automaton, and the signals so far.
 pub struct State {
     pub place: Place,
     pub header: Automaton,
-    pub signals: Signals,
+    pub signals: Names,
 }
 
 // Result of reading a text: the state at its end; or, if `refused`, why it is refused.

@@ -4,21 +4,21 @@ ghost use mathlib.Core.Bool.{true};
 ghost use Prim.Native.Nat.{_≤_};
 ghost use lib.ListN.{length};
 ghost use Rattle.text.specs.Reading.{textOf};
-ghost use Rattle.reader.specs.State.{Fit, freshState, Blank, numberIn, ReadsLines, Reads, ReadsOne, joined, ReadsBoth};
+ghost use Rattle.names.specs.Numbering.{Fit};
+ghost use Rattle.reader.specs.State.{freshState, Blank, numberIn, ReadsLines, Reads, ReadsOne, joined, ReadsBoth};
 use crate::entries;
-use crate::numbering;
 use crate::state::Both;
-use crate::state::Signals;
 use crate::state::State;
 use crate::state::Told;
 use lines::Line;
+use names::Names;
 use text::Place;
 use text::Spelling;
 use text::TextRefusal;
 use theory::Automaton;
 
 // The state before the first line.
-fn fresh(signals: Signals) -> State
+fn fresh(signals: Names) -> State
     ensures { λ r. ⌜ r ≡ freshState signals ⌝ }
 {
     State {
@@ -59,32 +59,34 @@ fn read_lines<'a>(
     p: &'a [u8],
     text: u8,
     spelling: Spelling,
-    signals: Signals,
+    signals: Names,
     cells: &mut [u16],
 ) -> Told
-    requires { ⌜ Blank signals (now cells) ⌝ }
+    requires { ⌜ Fit (now m) (now p) signals ⌝ }
+    requires { ⌜ Blank (now cells) ⌝ }
     requires { ⌜ length (textOf (now m) (now p) text) ≤ 65536 ⌝ }
     ensures { λ r. ⌜ ReadsLines (now (m .entry)) (now (p .entry)) text spelling signals (length (now (cells .entry))) r (now (cells .exit)) ⌝ }
 {
     let bytes = names::text_of(m, p, text as u32);
     let mut st = fresh(signals);
     let mut at: usize = 0;
-    let mut line: usize = 1;
+    let mut number: usize = 1;
     while at < bytes.len() {
         let place = st.place;
-        let parsed = lines::parse(lines::after(bytes, at), place);
+        let rest = lines::after(bytes, at);
+        let parsed = lines::parse(rest, place);
         let Line::Taken(record, length) = parsed else {
-            return refuse(refusal_of(parsed), text, line, st);
+            return refuse(refusal_of(parsed), text, number, st);
         };
-        let end = at + length;
-        let next = entries::enter(m, p, text, spelling, st, cells, at, end, record);
+        let line = lines::before(rest, length);
+        let next = entries::enter(m, p, text, spelling, st, cells, at, line, record);
         if next.refused {
-            return refuse(next.number, text, line, st);
+            return refuse(next.number, text, number, st);
         }
         let advanced = next.state;
         st = advanced;
-        at = end + 1;
-        line += 1;
+        at += length + 1;
+        number += 1;
     }
     Told {
         refused: false,
@@ -97,16 +99,16 @@ fn read_lines<'a>(
     }
 }
 
-// A text, where some signals are numbered already: 13, then its lines; 22.
+// Reads a text, where some signals are numbered already: 13, then its lines; 22.
 fn read<'a>(
     m: &'a [u8],
     p: &'a [u8],
     text: u8,
     spelling: Spelling,
-    signals: Signals,
+    signals: Names,
     cells: &mut [u16],
 ) -> Told
-    requires { ⌜ Fit signals ⌝ }
+    requires { ⌜ Fit (now m) (now p) signals ⌝ }
     ensures { λ r. ⌜ Reads (now (m .entry)) (now (p .entry)) text spelling signals (length (now (cells .entry))) r (now (cells .exit)) ⌝ }
 {
     table::clear(cells);
@@ -117,14 +119,16 @@ fn read<'a>(
     if bytes.len() == 0 {
         return refuse(22, text, 0, fresh(signals));
     }
-    read_lines(m, p, text, spelling, signals, cells)
+    let told = read_lines(m, p, text, spelling, signals, cells);
+    table::clear_if(told.refused, cells);
+    told
 }
 
 // Reads a text alone: it counts as the first, and its signals are numbered from 0.
 pub fn read_one(m: &[u8], spelling: Spelling, cells: &mut [u16]) -> Told
     ensures { λ r. ⌜ ReadsOne (now (m .entry)) spelling (length (now (cells .entry))) r (now (cells .exit)) ⌝ }
 {
-    read(m, m, 1, spelling, numbering::none(), cells)
+    read(m, m, 1, spelling, names::none(), cells)
 }
 
 // What came of the first text and of the second. Where the first is refused, nothing is read of the second, and it stands for both.
@@ -152,12 +156,14 @@ pub fn read_both<'a>(
 ) -> Both
     ensures { λ r. ⌜ ReadsBoth (now (m .entry)) (now (p .entry)) spelling (length (now (cm .entry))) (length (now (cp .entry))) r (now (cm .exit)) (now (cp .exit)) ⌝ }
 {
-    let none = numbering::none();
+    let none = names::none();
     let first = read(m, p, 1, spelling, none, cm);
     if first.refused {
+        table::clear(cp);
         return join(first, first);
     }
     let state = first.state;
     let second = read(m, p, 2, spelling, state.signals, cp);
+    table::clear_if(second.refused, cm);
     join(first, second)
 }

@@ -28,10 +28,10 @@ text-fits t name names e =
     let (_, (_, (_, (_, (c, _))))) = passed-first _ .0 (first-part (tableChecks 1 t) _ e .1) in
     nltb→le 65536 n (not-T (ltb 65536 n) (λ u. c (or-left (ltb 65536 n) (ltb 65536 n) u)))
 
-module _ (m p : List ℕ) where
-  made-short : (a b : Table) (n : ℕ) → length (answerText (first (reportChecks m p a b n)) (resultText m p a b)) ≤ 65608
+module _ (names : List (List ℕ)) where
+  made-short : (a b : Table) (n : ℕ) → length (answerText (first (reportChecks names a b n)) (resultText names a b)) ≤ 65608
   unfolding resultText reportChecks textChecks
-  made-short a b n = go (first (reportChecks m p a b n)) refl (synthesis a b .compatible) refl
+  made-short a b n = go (first (reportChecks names a b n)) refl (synthesis a b .compatible) refl
     where
       six : Bool → List ℕ
       six v = figures v (a .header .states * b .header .states) (keptCount (synthesis a b .flags)) (synthesis a b .rounds) (stepCount (controller a b)) (endCount (controller a b) (synthesis a b .flags))
@@ -40,21 +40,21 @@ module _ (m p : List ℕ) where
       short v = figures-short v _ _ _ _ _
 
       text : List ℕ
-      text = wholeText (controller a b) sequencerWord (signalNames m p)
+      text = wholeText (controller a b) sequencerWord names
 
-      fits : first (reportChecks m p a b n) ≡ Accepted → synthesis a b .compatible ≡ true → length text ≤ 65536
-      fits e v = let w = first-part (synthesisChecks a b (n * 32) n) _ e .1 in text-fits (controller a b) sequencerWord (signalNames m p) (rw v at w)
+      fits : first (reportChecks names a b n) ≡ Accepted → synthesis a b .compatible ≡ true → length text ≤ 65536
+      fits e v = let w = first-part (synthesisChecks a b (n * 32) n) _ e .1 in text-fits (controller a b) sequencerWord names (rw v at w)
 
-      go : (k : Checked) → first (reportChecks m p a b n) ≡ k → (v : Bool) → synthesis a b .compatible ≡ v
+      go : (k : Checked) → first (reportChecks names a b n) ≡ k → (v : Bool) → synthesis a b .compatible ≡ v
           → length (answerText k (cond v (six v ++ text) (six v))) ≤ 65608
       go Accepted e true h = omega (arith, length-append (six true) text, short true, fits e h)
       go Accepted e false h = omega (arith, short false)
       go (Refused r) e v h = omega (arith, refusal-short (r .table) (r .number) 0)
 
-  pub report-short : (cm cp cells flags : ℕ) → length (reportText m p cm cp cells flags) ≤ 65608
-  unfolding reportText
-  report-short cm cp cells flags = go (readBoth Folded cm m cp p)
-    where
-      go : (j : Joint) → length (byReading m p (roomOf cells flags) refusalText (λ x y. resultText m p (tableRead x) (tableRead y)) j) ≤ 65608
-      go (both x y) = made-short (tableRead x) (tableRead y) (lentPairs (tableRead x) (tableRead y) (roomOf cells flags))
-      go (neither r) = omega (arith, refusal-short (r .text) (r .number) (r .line))
+pub report-short : (m p : List ℕ) (cm cp cells flags : ℕ) → length (reportText m p cm cp cells flags) ≤ 65608
+unfolding reportText
+report-short m p cm cp cells flags = go (readBoth Folded cm m cp p)
+  where
+    go : (j : Joint) → length (byReading (roomOf cells flags) refusalText (λ x y. resultText (signalNames (y .signals)) (tableRead x) (tableRead y)) j) ≤ 65608
+    go (both x y) = made-short (signalNames (y .signals)) (tableRead x) (tableRead y) (lentPairs (tableRead x) (tableRead y) (roomOf cells flags))
+    go (neither r) = omega (arith, refusal-short (r .text) (r .number) (r .line))

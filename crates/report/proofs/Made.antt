@@ -38,9 +38,9 @@ six-put d compatible h kept rounds steps ends cells flags r b e f g p = rw (e, f
 
 -- ---- the reply
 
-module _ (m p : List ℕ) (s : Synthesis) (cells flags out : List ℕ) (e : ℕ) (out′ : List ℕ) where
+module _ (names : List (List ℕ)) (s : Synthesis) (cells flags out : List ℕ) (e : ℕ) (out′ : List ℕ) where
   abbrev Tells : Bool → Type 0
-  Tells refused = Answers (replyChecked m p s cells) (replyText m p s cells flags) out refused e out′
+  Tells refused = Answers (replyChecked names s cells) (replyText names s cells flags) out refused e out′
 
   pub tell-refused : (r : Refusal) → s ≡ made.Refused r → (refused : Bool) → refused ≡ true → Puts out 0 (refusalText (r .table) (r .number) 0) e out′
       → Tells refused
@@ -50,16 +50,16 @@ module _ (m p : List ℕ) (s : Synthesis) (cells flags out : List ℕ) (e : ℕ)
   tell-none h n q (u, v) = record { refuses = rw q; ends = rw q u; stands = rw q v }
 
   pub tell-yes : (h : Automaton) (n : ℕ) → s ≡ made.Controller h n → (refused : Bool)
-      → Answers (first (textChecks m p (table h cells))) (withText m p (table h cells) (sixOf true h n cells flags)) out refused e out′
+      → Answers (first (textChecks names (table h cells))) (withText names (table h cells) (sixOf true h n cells flags)) out refused e out′
       → Tells refused
   tell-yes h n q refused i = rw q i
 
 -- ---- the two tables
 
-module _ (m p : List ℕ) (a b : Table) (cells flags cells′ flags′ : List ℕ) (sized : length cells ≡ length flags * 32) (s : Synthesis)
+module _ (names : List (List ℕ)) (a b : Table) (cells flags cells′ flags′ : List ℕ) (sized : length cells ≡ length flags * 32) (s : Synthesis)
     (replied : s ≡ synthesisReply a b (length cells) (length flags)) (cells-left : cells′ ≡ synthesisCells a b cells (length flags))
     (flags-left : flags′ ≡ synthesisFlags a b (length cells) flags) (out : List ℕ) (refused : Bool) (e : ℕ) (out′ : List ℕ)
-    (tells : Answers (replyChecked m p s cells′) (replyText m p s cells′ flags′) out refused e out′) where
+    (tells : Answers (replyChecked names s cells′) (replyText names s cells′ flags′) out refused e out′) where
   abbrev n : ℕ
   n = length flags
 
@@ -71,13 +71,13 @@ module _ (m p : List ℕ) (a b : Table) (cells flags cells′ flags′ : List �
 
   -- Both the maker's checks and the writer's.
   abbrev whole : Checked
-  whole = first (reportChecks m p a b n)
+  whole = first (reportChecks names a b n)
 
   -- What is told of the reply is what is told of the tables.
   abbrev Same : Type 0
-  Same = (replyChecked m p s cells′ ≡ whole) × (answerText (replyChecked m p s cells′) (replyText m p s cells′ flags′) ≡ answerText whole (resultText m p a b))
+  Same = (replyChecked names s cells′ ≡ whole) × (answerText (replyChecked names s cells′) (replyText names s cells′ flags′) ≡ answerText whole (resultText names a b))
 
-  makes : Same → (whole ≡ Accepted → (cells′ ≡ t .cells) × (flags′ ≡ synthesis a b .flags)) → Makes m p a b n out refused e cells′ flags′ out′
+  makes : Same → (whole ≡ Accepted → (cells′ ≡ t .cells) × (flags′ ≡ synthesis a b .flags)) → Makes names a b n out refused e cells′ flags′ out′
   makes (k, l) result = record {
     answers = record {
       refuses = tells .refuses ∙ ap isRefused k;
@@ -100,7 +100,7 @@ module _ (m p : List ℕ) (a b : Table) (cells flags cells′ flags′ : List �
     never : whole ≡ Accepted → ⊥
     never q = let z : _≡_ {A = ℕ} 0 1 = cc (whole-refused) in omega arith
 
-    refused-made : Makes m p a b n out refused e cells′ flags′ out′
+    refused-made : Makes names a b n out refused e cells′ flags′ out′
     refused-made = makes (rw (reply-refused, whole-refused), rw (reply-refused, whole-refused)) (λ q. absurd (never q))
 
   module _ (yes : checked ≡ Accepted) where
@@ -146,28 +146,28 @@ module _ (m p : List ℕ) (a b : Table) (cells flags cells′ flags′ : List �
         (λ i. endsIn (table (t .header) (cells-are i)) (flags-are i)) ∙ ends-of-table t (synthesis a b .flags) fits flagged in
         λ i. figures v (t .header .states) (keptCount (flags-are i)) (synthesis a b .rounds) (steps i) (ends i)
 
-    checked-same : replyChecked m p s cells′ ≡ whole
+    checked-same : replyChecked names s cells′ ≡ whole
     unfolding reportChecks first
-    checked-same = (λ i. replyChecked m p (decided i) (cells-are i)) ∙ go (synthesis a b .compatible) ∙ sym (first-accepted (synthesisChecks a b (n * 32) n) _ yes)
+    checked-same = (λ i. replyChecked names (decided i) (cells-are i)) ∙ go (synthesis a b .compatible) ∙ sym (first-accepted (synthesisChecks a b (n * 32) n) _ yes)
       where
-        go : (v : Bool) → replyChecked m p (verdict v (t .header) (synthesis a b .rounds)) (t .cells) ≡ first (cond v (textChecks m p t) [])
+        go : (v : Bool) → replyChecked names (verdict v (t .header) (synthesis a b .rounds)) (t .cells) ≡ first (cond v (textChecks names t) [])
         go true = refl
         go false = refl
 
-    text-same : replyText m p s cells′ flags′ ≡ resultText m p a b
+    text-same : replyText names s cells′ flags′ ≡ resultText names a b
     unfolding resultText
-    text-same = (λ i. replyText m p (decided i) cells′ flags′) ∙ go (synthesis a b .compatible)
+    text-same = (λ i. replyText names (decided i) cells′ flags′) ∙ go (synthesis a b .compatible)
       where
-        go : (v : Bool) → replyText m p (verdict v (t .header) (synthesis a b .rounds)) cells′ flags′ ≡ cond v (withText m p t (figured v)) (figured v)
-        go true = λ i. withText m p (table (t .header) (cells-are i)) (six true i)
+        go : (v : Bool) → replyText names (verdict v (t .header) (synthesis a b .rounds)) cells′ flags′ ≡ cond v (withText names t (figured v)) (figured v)
+        go true = λ i. withText names (table (t .header) (cells-are i)) (six true i)
         go false = six false
 
-    accepted-made : Makes m p a b n out refused e cells′ flags′ out′
+    accepted-made : Makes names a b n out refused e cells′ flags′ out′
     accepted-made = makes (checked-same, λ i. answerText (checked-same i) (text-same i)) (λ q. (cells-are, flags-are))
 
-  pub pairs-made : Makes m p a b n out refused e cells′ flags′ out′
+  pub pairs-made : Makes names a b n out refused e cells′ flags′ out′
   pairs-made = go checked refl
     where
-      go : (k : Checked) → checked ≡ k → Makes m p a b n out refused e cells′ flags′ out′
+      go : (k : Checked) → checked ≡ k → Makes names a b n out refused e cells′ flags′ out′
       go Accepted q = accepted-made q
       go (Refused r) q = refused-made r q

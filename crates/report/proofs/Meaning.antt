@@ -29,6 +29,7 @@ use Rattle.text.specs.Writing.{decimal, tabbed, printed}
 use Rattle.text.proofs.Decimal.{Digits, digits-of}
 use Rattle.emit.specs.Buffer.{stored}
 use Rattle.emit.proofs.Buffer.{stored-front}
+use Rattle.report.specs.SignalNames.{signalNames}
 use Rattle.report.specs.Lines.{refusalText, figures}
 use Rattle.report.specs.Report.{lentPairs, roomOf, reportChecks, resultText, checkedOf, byReading, reportText, reportBuffers}
 use Rattle.report.proofs.Whole.{lent-fits}
@@ -63,7 +64,7 @@ pub record Ends (a b : Table) : Type 0 where
   -- .. and under none there is no end.
   pub none : ¬ T (synthesis a b .compatible) → endCount (controller a b) (synthesis a b .flags) ≡ 0
 
-module _ (m p : List ℕ) (a b : Table) (cells flags : ℕ) where
+module _ (names : List (List ℕ)) (a b : Table) (cells flags : ℕ) where
   abbrev count : ℕ
   count = a .header .states * b .header .states
 
@@ -89,16 +90,16 @@ module _ (m p : List ℕ) (a b : Table) (cells flags : ℕ) where
   unfolding endCount
   ends-few = count-le count _
 
-  maker-accepted : first (reportChecks m p a b lent) ≡ Accepted → first (synthesisChecks a b (lent * 32) lent) ≡ Accepted
+  maker-accepted : first (reportChecks names a b lent) ≡ Accepted → first (synthesisChecks a b (lent * 32) lent) ≡ Accepted
   unfolding reportChecks
   maker-accepted e = first-part (synthesisChecks a b (lent * 32) lent) _ e .0
 
   -- Where no check applies, as many pairs are lent as there are.
-  all-lent : first (reportChecks m p a b lent) ≡ Accepted → lent ≡ count
+  all-lent : first (reportChecks names a b lent) ≡ Accepted → lent ≡ count
   all-lent e = let (_, (_, flags)) = synthesis-accepted a b (lent * 32) lent .0 (maker-accepted e) in flags
 
   -- Figures are printed only where no check applies.
-  pub figures-small : first (reportChecks m p a b lent) ≡ Accepted → Small a b
+  pub figures-small : first (reportChecks names a b lent) ≡ Accepted → Small a b
   figures-small e =
       let v = checks-premises a b (lent * 32) lent (maker-accepted e) in
       let few : count ≤ 1024 = omega (arith, all-lent e, lent-small) in
@@ -111,7 +112,7 @@ module _ (m p : List ℕ) (a b : Table) (cells flags : ℕ) where
       }
 
   -- The ends that are printed are those of the composition.
-  pub ends-mean : first (reportChecks m p a b lent) ≡ Accepted → Ends a b
+  pub ends-mean : first (reportChecks names a b lent) ≡ Accepted → Ends a b
   unfolding composition endCount
   ends-mean e =
       let v = checks-premises a b (lent * 32) lent (maker-accepted e) in
@@ -129,7 +130,7 @@ module _ (m p : List ℕ) (a b : Table) (cells flags : ℕ) where
       premises-ten a b (lent * 32) lent v (or-right (wrongCells count (lent * 32)) (wrongBytes count lent) (rw (ne-eqb lent count d) tt))
 
   -- More than 1,024 pairs gets 10, of tables that no earlier check refuses.
-  pub too-many : Premises a b → 1024 < count → first (reportChecks m p a b lent) ≡ refuse 10 0
+  pub too-many : Premises a b → 1024 < count → first (reportChecks names a b lent) ≡ refuse 10 0
   unfolding reportChecks
   too-many v more = first-refused (synthesisChecks a b (lent * 32) lent) _ _ (makers-ten v more)
 
@@ -156,41 +157,41 @@ six-no-line v false pairs kept rounds steps ends text file number line e =
     omega (arith, ap firstByte e, ap firstByte (append-nil (figures v pairs kept rounds steps ends)), six-first v pairs kept rounds steps ends [], line-first file number line)
 
 -- The tables that were read, where no check applies.
-record Passed (m p : List ℕ) (room : ℕ) (j : Joint) : Type 0 where
+record Passed (room : ℕ) (j : Joint) : Type 0 where
   component : Reading
   specification : Reading
   read : j ≡ both component specification
-  accepted : checkedOf m p room component specification ≡ Accepted
+  accepted : checkedOf room component specification ≡ Accepted
 
-module _ (m p : List ℕ) (room : ℕ) where
+module _ (room : ℕ) where
   abbrev printedOf : Joint → List ℕ
-  printedOf = byReading m p room refusalText (λ x y. resultText m p (tableRead x) (tableRead y))
+  printedOf = byReading room refusalText (λ x y. resultText (signalNames (y .signals)) (tableRead x) (tableRead y))
 
   -- Where the line of a refusal is printed, all else is as after a refusal.
   line-refused : {A : Type 0} (refused : A) (made : Reading → Reading → A) (j : Joint) (file number line : ℕ) → printedOf j ≡ refusalText file number line
-      → byReading m p room (λ file number line. refused) made j ≡ refused
+      → byReading room (λ file number line. refused) made j ≡ refused
   unfolding resultText
   line-refused refused made (neither r) file number line e = refl
-  line-refused refused made (both x y) file number line e = go (checkedOf m p room x y) refl
+  line-refused refused made (both x y) file number line e = go (checkedOf room x y) refl
     where
-      go : (k : Checked) → checkedOf m p room x y ≡ k → byReading m p room (λ file number line. refused) made (both x y) ≡ refused
+      go : (k : Checked) → checkedOf room x y ≡ k → byReading room (λ file number line. refused) made (both x y) ≡ refused
       go Accepted q = absurd (six-no-line _ (synthesis (tableRead x) (tableRead y) .compatible) _ _ _ _ _ _ file number line (rw q at e))
       go (Refused r) q = rw q
 
-  no-line-passed : (j : Joint) → ((file number line : ℕ) → printedOf j ≡ refusalText file number line → ⊥) → Passed m p room j
+  no-line-passed : (j : Joint) → ((file number line : ℕ) → printedOf j ≡ refusalText file number line → ⊥) → Passed room j
   no-line-passed (neither r) h = absurd (h (r .text) (r .number) (r .line) refl)
-  no-line-passed (both x y) h = go (checkedOf m p room x y) refl
+  no-line-passed (both x y) h = go (checkedOf room x y) refl
     where
-      go : (k : Checked) → checkedOf m p room x y ≡ k → Passed m p room (both x y)
+      go : (k : Checked) → checkedOf room x y ≡ k → Passed room (both x y)
       go Accepted q = record { component = x; specification = y; read = refl; accepted = q }
       go (Refused r) q = absurd (h (r .table) (r .number) 0 (rw q))
 
-  passed-printed : (j : Joint) (w : Passed m p room j) → printedOf j ≡ resultText m p (tableRead (w .component)) (tableRead (w .specification))
+  passed-printed : (j : Joint) (w : Passed room j) → printedOf j ≡ resultText (signalNames (w .specification .signals)) (tableRead (w .component)) (tableRead (w .specification))
   passed-printed j w = ap printedOf (w .read) ∙ rw (w .accepted)
 
-  passed-made : {A : Type 0} (refused : A) (made : Reading → Reading → A) (j : Joint) (w : Passed m p room j)
-      → byReading m p room (λ file number line. refused) made j ≡ made (w .component) (w .specification)
-  passed-made refused made j w = ap (byReading m p room (λ file number line. refused) made) (w .read) ∙ rw (w .accepted)
+  passed-made : {A : Type 0} (refused : A) (made : Reading → Reading → A) (j : Joint) (w : Passed room j)
+      → byReading room (λ file number line. refused) made j ≡ made (w .component) (w .specification)
+  passed-made refused made j w = ap (byReading room (λ file number line. refused) made) (w .read) ∙ rw (w .accepted)
 
 module _ (m p cm cp cells flags : List ℕ) where
   abbrev room : ℕ
@@ -207,7 +208,7 @@ module _ (m p cm cp cells flags : List ℕ) where
   pub refused-leaves : (file number line : ℕ) → text ≡ refusalText file number line
       → reportBuffers m p cm cp cells flags ≡ (replicate (length cm) 65535, replicate (length cp) 65535, cells, flags)
   unfolding reportText reportBuffers
-  refused-leaves file number line e = line-refused m p room _ _ j file number line e
+  refused-leaves file number line e = line-refused room _ _ j file number line e
 
   -- What is printed is the result's text, with figures that lose no digit and count what they say. The buffers hold the cells of module and plan as read,
   -- and the maker's cells and flags; beyond these, cells and flags are as they were.
@@ -215,7 +216,7 @@ module _ (m p cm cp cells flags : List ℕ) where
     pub component : Reading
     pub specification : Reading
     pub read : j ≡ both component specification
-    pub printed : text ≡ resultText m p (tableRead component) (tableRead specification)
+    pub printed : text ≡ resultText (signalNames (specification .signals)) (tableRead component) (tableRead specification)
     pub small : Small (tableRead component) (tableRead specification)
     pub ends : Ends (tableRead component) (tableRead specification)
     pub left : (let a = tableRead component in
@@ -228,15 +229,16 @@ module _ (m p cm cp cells flags : List ℕ) where
   pub result-leaves : ((file number line : ℕ) → text ≡ refusalText file number line → ⊥) → Done
   unfolding reportText reportBuffers
   result-leaves h =
-      let w = no-line-passed m p room j h in
+      let w = no-line-passed room j h in
       let x = w .component in
       let y = w .specification in
       let a = tableRead x in
       let b = tableRead y in
-      let all = all-lent m p a b (length cells) (length flags) (w .accepted) in
-      let fits = lent-fits (count m p a b (length cells) (length flags)) (length cells) (length flags) _ refl in
-      let n = cells-many m p a b (length cells) (length flags) in
-      let k = flags-many m p a b (length cells) (length flags) in
+      let names = signalNames (y .signals) in
+      let all = all-lent names a b (length cells) (length flags) (w .accepted) in
+      let fits = lent-fits (count names a b (length cells) (length flags)) (length cells) (length flags) _ refl in
+      let n = cells-many names a b (length cells) (length flags) in
+      let k = flags-many names a b (length cells) (length flags) in
       let c : stored cells 0 (synthesis a b .cells) ≡ synthesis a b .cells ++ drop (controller a b .header .states * 32) cells =
       stored-front cells (synthesis a b .cells) (omega arith) ∙ rw n in
       let f : stored flags 0 (synthesis a b .flags) ≡ synthesis a b .flags ++ drop (controller a b .header .states) flags =
@@ -245,8 +247,8 @@ module _ (m p cm cp cells flags : List ℕ) where
         component = x;
         specification = y;
         read = w .read;
-        printed = passed-printed m p room j w;
-        small = figures-small m p a b (length cells) (length flags) (w .accepted);
-        ends = ends-mean m p a b (length cells) (length flags) (w .accepted);
-        left = passed-made m p room _ _ j w ∙ (λ i. (x .cells, y .cells, c i, f i));
+        printed = passed-printed room j w;
+        small = figures-small names a b (length cells) (length flags) (w .accepted);
+        ends = ends-mean names a b (length cells) (length flags) (w .accepted);
+        left = passed-made room _ _ j w ∙ (λ i. (x .cells, y .cells, c i, f i));
       }

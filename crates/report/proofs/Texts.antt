@@ -17,25 +17,22 @@ use Rattle.writer.specs.declared.Printed.{Printed}
 use Rattle.writer.specs.declared.Printed.the-variants as reply
 use Rattle.writer.specs.Replies.{writerReply}
 use Rattle.writer.proofs.Replies.{refused-of, accepted-of}
-use Rattle.report.specs.SignalNames.{sequencerWord, signalNames}
+use Rattle.report.specs.SignalNames.{sequencerWord}
 use Rattle.report.specs.Lines.{refusalText}
 use Rattle.report.specs.Report.{textChecks, withText}
 use Rattle.report.specs.Parts.{Answers}
 
-module _ (m p : List ℕ) (t : Table) (bytes bytes′ : List ℕ) (k : Printed) (size : length bytes ≡ 65536)
-    (replied : k ≡ writerReply t sequencerWord (signalNames m p) (length bytes)) (written : bytes′ ≡ writerBytes t sequencerWord (signalNames m p) bytes) where
-  abbrev names : List (List ℕ)
-  names = signalNames m p
-
+module _ (names : List (List ℕ)) (t : Table) (bytes bytes′ : List ℕ) (k : Printed) (size : length bytes ≡ 65536)
+    (replied : k ≡ writerReply t sequencerWord names (length bytes)) (written : bytes′ ≡ writerBytes t sequencerWord names bytes) where
   abbrev checked : Checked
-  checked = first (textChecks m p t)
+  checked = first (textChecks names t)
 
   told : unlessRefused checked reply.Refused (reply.Length (textLength t sequencerWord names)) ≡ k
   unfolding writerReply textChecks
   told = sym (rw size at replied)
 
   pub text-refused : (six : List ℕ) (r : Refusal) → k ≡ reply.Refused r → (out : List ℕ) (refused : Bool) (e : ℕ) (out′ : List ℕ) → refused ≡ true
-      → Puts out 0 (refusalText (r .table) (r .number) 0) e out′ → Answers checked (withText m p t six) out refused e out′
+      → Puts out 0 (refusalText (r .table) (r .number) 0) e out′ → Answers checked (withText names t six) out refused e out′
   text-refused six r q out refused e out′ w (u, v) =
       let c : checked ≡ Refused r = refused-of checked _ r (told ∙ q) in
       record { refuses = w ∙ rw c; ends = rw c u; stands = rw c v }
@@ -59,7 +56,7 @@ module _ (m p : List ℕ) (t : Table) (bytes bytes′ : List ℕ) (k : Printed) 
     text-within e = omega (arith, ap length whole, length-append text (drop n bytes), length-drop n bytes, long)
 
     pub text-follows : (six out : List ℕ) (at e : ℕ) (out₁ out₂ : List ℕ) → Puts out 0 six at out₁ → Puts out₁ at (take (n - 0) bytes′) e out₂
-        → Answers checked (withText m p t six) out false e out₂
+        → Answers checked (withText names t six) out false e out₂
     text-follows six out at e out₁ out₂ u v =
         let z : n - 0 ≡ length text = omega (arith, long) in
         let part : take (n - 0) bytes′ ≡ text = rw (z, whole) (take-append-seam text (drop n bytes)) in

@@ -1,11 +1,12 @@
 -- The report of two texts: what was read is lent on to the maker, and what is left stands in the program's buffers.
-use mathlib.Core.Path.{_≡_, refl, sym, ap, _∙_}
+use mathlib.Core.Path.{_≡_, refl, sym, ap, subst, _∙_}
 use mathlib.Core.Bool.{Bool, true, false, cond}
 use mathlib.Core.List.{List, _++_}
 use Prim.Native.Nat.{ℕ, _*_, _/_, _≤_, _<_}
 use native.Mathlib.Nat.{mul-le-mul}
 use native.Mathlib.Decide.{decLe}
 use native.Mathlib.Omega.{arith}
+use lib.Dec.{T}
 use lib.ListN.{length, take, replicate}
 use lib.Seq.{length-take-le, take-at}
 use borrow.Author.Tests.{le-leb, lt-leb}
@@ -20,9 +21,11 @@ use Rattle.text.specs.Reading.{Reading, Joint, both, neither, readBoth, cellsFi
 use Rattle.text.proofs.Accepted as accepted
 use Rattle.emit.specs.Buffer.{stored, after}
 use Rattle.emit.proofs.Buffer.{Puts}
-use Rattle.reader.specs.declared.Together.{Together}
-use Rattle.reader.specs.declared.Together.the-variants as together
-use Rattle.reader.specs.Replies.{togetherReply}
+use Rattle.names.specs.Numbering.{signalsOf, tableOf}
+use Rattle.reader.specs.declared.NamedTables.{NamedTables}
+use Rattle.reader.specs.Replies.{signalsRead, namedReply}
+use Rattle.report.specs.SignalNames.{signalNames, namesIn}
+use Rattle.report.proofs.SignalNames.{named-signals}
 use Rattle.report.specs.Lines.{refusalText}
 use Rattle.report.proofs.LineLengths.{within}
 use Rattle.report.specs.Report.{lesserOf, roomOf, reportChecks, checkedOf, reportText, Buffers, reportBuffers}
@@ -76,21 +79,21 @@ left-by Accepted refused e l made made′ h = rw e (h refl)
 left-by (Refused r) refused e l made made′ h = rw e
 
 -- The result out of room of its own, of which the maker was lent parts: i cells, j flags.
-module _ (m p : List ℕ) (a b : Table) (cells flags : List ℕ) (n : ℕ) (n-lent : n ≡ pairsFor a b cells flags) (own own′ : List ℕ)
+module _ (names : List (List ℕ)) (a b : Table) (cells flags : List ℕ) (n : ℕ) (n-lent : n ≡ pairsFor a b cells flags) (own own′ : List ℕ)
     (i j : ℕ) (i-is : i ≡ n * 32) (j-is : j ≡ n) (i-fits : i ≤ length own) (j-fits : j ≤ length own′) where
   lent-own : length (take j own′) ≡ pairsFor a b cells flags
   lent-own = length-take-le j own′ j-fits ∙ j-is ∙ n-lent
 
   pub leaves-made : (out : List ℕ) (refused : Bool) (e : ℕ) (made kept rest rest′ cells′ flags′ out′ : List ℕ)
       → length made ≡ length (take i own) → length kept ≡ length (take j own′)
-      → Makes m p a b (length (take j own′)) out refused e made kept out′
+      → Makes names a b (length (take j own′)) out refused e made kept out′
       → (cells′ ≡ cond refused cells (stored cells 0 (take i (made ++ rest)))) × (flags′ ≡ cond refused flags (stored flags 0 (take j (kept ++ rest′))))
-      → Leaves m p a b cells flags out refused e cells′ flags′ out′
+      → Leaves names a b cells flags out refused e cells′ flags′ out′
   leaves-made out refused e made kept rest rest′ cells′ flags′ out′ f g w (u, v) =
       let f′ : take i (made ++ rest) ≡ made = take-at made rest i (f ∙ length-take-le i own i-fits) in
       let g′ : take j (kept ++ rest′) ≡ kept = take-at kept rest′ j (g ∙ length-take-le j own′ j-fits) in
-      let k = first (reportChecks m p a b (pairsFor a b cells flags)) in
-      let w′ : Makes m p a b (pairsFor a b cells flags) out refused e made kept out′ = rw lent-own at w in
+      let k = first (reportChecks names a b (pairsFor a b cells flags)) in
+      let w′ : Makes names a b (pairsFor a b cells flags) out refused e made kept out′ = rw lent-own at w in
       record {
         answers = w′ .answers;
         cells-left = u ∙ left-by k refused (w′ .answers .refuses) cells _ _ (λ q. ap (stored cells 0) (f′ ∙ w′ .cells-made q));
@@ -100,26 +103,35 @@ module _ (m p : List ℕ) (a b : Table) (cells flags : List ℕ) (n : ℕ) (n-le
 -- ---- what was read
 
 -- The cells of the two tables are parts of longer buffers.
-pub leaves-read : (m p : List ℕ) (a b : Automaton) (ca cb : List ℕ) (u v : ℕ) → u ≡ a .states * 32 → v ≡ b .states * 32
+pub leaves-read : (names : List (List ℕ)) (a b : Automaton) (ca cb : List ℕ) (u v : ℕ) → u ≡ a .states * 32 → v ≡ b .states * 32
     → (cells flags out : List ℕ) (refused : Bool) (e : ℕ) (cells′ flags′ out′ : List ℕ)
-    → Leaves m p (table a (take u ca)) (table b (take v cb)) cells flags out refused e cells′ flags′ out′
-    → Leaves m p (table a (take (a .states * 32) ca)) (table b (take (b .states * 32) cb)) cells flags out refused e cells′ flags′ out′
-leaves-read m p a b ca cb u v eu ev cells flags out refused e cells′ flags′ out′ w = rw (eu, ev) at w
+    → Leaves names (table a (take u ca)) (table b (take v cb)) cells flags out refused e cells′ flags′ out′
+    → Leaves names (table a (take (a .states * 32) ca)) (table b (take (b .states * 32) cb)) cells flags out refused e cells′ flags′ out′
+leaves-read names a b ca cb u v eu ev cells flags out refused e cells′ flags′ out′ w = rw (eu, ev) at w
 
-joint-refused : (j : Joint) (r : TextRefusal) → togetherReply j ≡ together.Refused r → j ≡ neither r
-joint-refused (both x y) r e = absurd (let z : _≡_ {A = ℕ} 0 1 = cc in omega arith)
-joint-refused (neither s) r e = let z : s ≡ r = cc in ap neither z
-
-record Tables (j : Joint) (a b : Automaton) : Type 0 where
+-- What was read of two texts that are not refused.
+record Tables (j : Joint) (r : NamedTables) : Type 0 where
   first : Reading
   second : Reading
   are : j ≡ both first second
-  header : a ≡ first .header
-  header′ : b ≡ second .header
+  header : r .component ≡ first .header
+  header′ : r .specification ≡ second .header
+  names : r .names ≡ tableOf (second .signals)
 
-joint-tables : (j : Joint) (a b : Automaton) → togetherReply j ≡ together.Tables a b → Tables j a b
-joint-tables (both x y) a b e = record { first = x; second = y; are = refl; header = cc; header′ = cc }
-joint-tables (neither s) a b e = absurd (let z : _≡_ {A = ℕ} 0 1 = cc in omega arith)
+joint-refused : (j : Joint) (r : NamedTables) → r ≡ namedReply j → r .refused ≡ true → j ≡ neither (r .refusal)
+joint-refused (both x y) r e f = absurd (subst T (sym f ∙ ap (λ k. k .refused) e) tt)
+joint-refused (neither s) r e f = ap neither (sym (ap (λ k. k .refusal) e))
+
+joint-tables : (j : Joint) (r : NamedTables) → r ≡ namedReply j → r .refused ≡ false → Tables j r
+joint-tables (both x y) r e f = record {
+  first = x;
+  second = y;
+  are = refl;
+  header = ap (λ k. k .component) e;
+  header′ = ap (λ k. k .specification) e;
+  names = ap (λ k. k .names) e;
+}
+joint-tables (neither s) r e f = absurd (subst T (sym (ap (λ k. k .refused) e) ∙ f) tt)
 
 -- A text that was put, with a limit to where it ends, and what is left in the four buffers.
 abbrev pub Ends : (bytes : List ℕ) (end : ℕ) (bytes′ text : List ℕ) (left buffers : Buffers) → Type 0
@@ -137,15 +149,19 @@ reports m p cm cp cells flags bytes end bytes′ left (u, v) e =
     let text = reportText m p (length cm) (length cp) (length cells) (length flags) in
     (u, (v, (e, omega (arith, u, within (length bytes) 0 text, report-short m p (length cm) (length cp) (length cells) (length flags)))))
 
-module _ (cm₀ cp₀ m p cm cp : List ℕ) (k : Together) (replied : k ≡ togetherReply (readBoth Folded (length cm₀) m (length cp₀) p))
+module _ (cm₀ cp₀ m p cm cp : List ℕ) (k : NamedTables) (replied : k ≡ namedReply (readBoth Folded (length cm₀) m (length cp₀) p))
+    (signals-read : signalsOf m p (k .names) ≡ signalsRead (readBoth Folded (length cm₀) m (length cp₀) p))
     (first-left : cm ≡ cellsFirst (length cm₀) (readBoth Folded (length cm₀) m (length cp₀) p))
     (second-left : cp ≡ cellsSecond (length cp₀) (readBoth Folded (length cm₀) m (length cp₀) p)) where
   abbrev j : Joint
   j = readBoth Folded (length cm₀) m (length cp₀) p
 
-  module _ (r : TextRefusal) (no : k ≡ together.Refused r) (cells flags : List ℕ) where
+  module _ (no : k .refused ≡ true) (cells flags : List ℕ) where
+    abbrev r : TextRefusal
+    r = k .refusal
+
     none : j ≡ neither r
-    none = joint-refused j r (sym replied ∙ no)
+    none = joint-refused j k replied no
 
     text-refused : refusalText (r .text) (r .number) (r .line) ≡ reportText m p (length cm₀) (length cp₀) (length cells) (length flags)
     unfolding reportText
@@ -159,9 +175,15 @@ module _ (cm₀ cp₀ m p cm cp : List ℕ) (k : Together) (replied : k ≡ toge
         → Reports m p cm₀ cp₀ cells flags out e out′ (cm, cp, cells, flags)
     reading-refused out e out′ w = reports m p cm₀ cp₀ cells flags out e out′ _ (rw text-refused at w) left-refused
 
-  module _ (a b : Automaton) (yes : k ≡ together.Tables a b) where
-    given : Tables j a b
-    given = joint-tables j a b (sym replied ∙ yes)
+  module _ (yes : k .refused ≡ false) where
+    given : Tables j k
+    given = joint-tables j k replied yes
+
+    abbrev a : Automaton
+    a = k .component
+
+    abbrev b : Automaton
+    b = k .specification
 
     abbrev x : Reading
     x = given .first
@@ -191,6 +213,12 @@ module _ (cm₀ cp₀ m p cm cp : List ℕ) (k : Together) (replied : k ≡ toge
     pub holds-both : Holds a cm × Holds b cp
     holds-both = (holds-first, holds-second)
 
+    -- The names of the table of places are those of the signals.
+    names-read : namesIn m p (k .names) ≡ signalNames (y .signals)
+    names-read =
+        let signals : signalsOf m p (k .names) ≡ y .signals = signals-read ∙ ap signalsRead (given .are) in
+        named-signals m p (k .names) (given .names ∙ ap tableOf (sym signals)) (y .signals) signals
+
     first-table : table a (take (a .states * 32) cm) ≡ tableRead x
     first-table = λ i. table (given .header i) (take (given .header i .states * 32) (first-cells i))
 
@@ -198,12 +226,12 @@ module _ (cm₀ cp₀ m p cm cp : List ℕ) (k : Together) (replied : k ≡ toge
     second-table = λ i. table (given .header′ i) (take (given .header′ i .states * 32) (second-cells i))
 
     module _ (cells flags out : List ℕ) (refused : Bool) (e : ℕ) (cells′ flags′ out′ : List ℕ)
-        (leaves : Leaves m p (table a (take (a .states * 32) cm)) (table b (take (b .states * 32) cp)) cells flags out refused e cells′ flags′ out′) where
+        (leaves : Leaves (namesIn m p (k .names)) (table a (take (a .states * 32) cm)) (table b (take (b .states * 32) cp)) cells flags out refused e cells′ flags′ out′) where
       abbrev checked : Checked
-      checked = checkedOf m p (roomOf (length cells) (length flags)) x y
+      checked = checkedOf (roomOf (length cells) (length flags)) x y
 
-      left : Leaves m p (tableRead x) (tableRead y) cells flags out refused e cells′ flags′ out′
-      left = rw (first-table, second-table) at leaves
+      left : Leaves (signalNames (y .signals)) (tableRead x) (tableRead y) cells flags out refused e cells′ flags′ out′
+      left = rw (first-table, second-table, names-read) at leaves
 
       text-put : Puts out 0 (reportText m p (length cm₀) (length cp₀) (length cells) (length flags)) e out′
       unfolding reportText

@@ -38,24 +38,24 @@ pub record Answers (c : Checked) (text bytes : List ℕ) (refused : Bool) (end :
 
 -- ---- by the maker's reply, and what stands in its buffers
 
-module _ (m p : List ℕ) where
+module _ (names : List (List ℕ)) where
   abbrev pub replyChecked : Synthesis → List ℕ → Checked
-  replyChecked (made.Controller h n) cells = first (textChecks m p (table h cells))
+  replyChecked (made.Controller h n) cells = first (textChecks names (table h cells))
   replyChecked (made.NoController h n) cells = Accepted
   replyChecked (made.Refused r) cells = Refused r
 
   abbrev pub replyText : Synthesis → List ℕ → List ℕ → List ℕ
-  replyText (made.Controller h n) cells flags = withText m p (table h cells) (sixOf true h n cells flags)
+  replyText (made.Controller h n) cells flags = withText names (table h cells) (sixOf true h n cells flags)
   replyText (made.NoController h n) cells flags = sixOf false h n cells flags
   replyText (made.Refused r) cells flags = []
 
 -- ---- by the two tables
 
 -- The maker works in buffers of n pairs, which hold its result where no check applies.
-pub record Makes (m p : List ℕ) (a b : Table) (n : ℕ) (bytes : List ℕ) (refused : Bool) (end : ℕ) (cells′ flags′ bytes′ : List ℕ) : Type 0 where
-  pub answers : Answers (first (reportChecks m p a b n)) (resultText m p a b) bytes refused end bytes′
-  pub cells-made : first (reportChecks m p a b n) ≡ Accepted → cells′ ≡ synthesis a b .cells
-  pub flags-made : first (reportChecks m p a b n) ≡ Accepted → flags′ ≡ synthesis a b .flags
+pub record Makes (names : List (List ℕ)) (a b : Table) (n : ℕ) (bytes : List ℕ) (refused : Bool) (end : ℕ) (cells′ flags′ bytes′ : List ℕ) : Type 0 where
+  pub answers : Answers (first (reportChecks names a b n)) (resultText names a b) bytes refused end bytes′
+  pub cells-made : first (reportChecks names a b n) ≡ Accepted → cells′ ≡ synthesis a b .cells
+  pub flags-made : first (reportChecks names a b n) ≡ Accepted → flags′ ≡ synthesis a b .flags
 
 -- The lent cells hold a table of so many states.
 pub record Holds (h : Automaton) (cells : List ℕ) : Type 0 where
@@ -73,7 +73,7 @@ abbrev pub pairsFor : Table → Table → List ℕ → List ℕ → ℕ
 pairsFor a b cells flags = lentPairs a b (roomOf (length cells) (length flags))
 
 -- The buffers for the result are as they were, or begin with it.
-pub record Leaves (m p : List ℕ) (a b : Table) (cells flags bytes : List ℕ) (refused : Bool) (end : ℕ) (cells′ flags′ bytes′ : List ℕ) : Type 0 where
-  pub answers : Answers (first (reportChecks m p a b (pairsFor a b cells flags))) (resultText m p a b) bytes refused end bytes′
-  pub cells-left : cells′ ≡ unlessRefused (first (reportChecks m p a b (pairsFor a b cells flags))) (λ r. cells) (stored cells 0 (synthesis a b .cells))
-  pub flags-left : flags′ ≡ unlessRefused (first (reportChecks m p a b (pairsFor a b cells flags))) (λ r. flags) (stored flags 0 (synthesis a b .flags))
+pub record Leaves (names : List (List ℕ)) (a b : Table) (cells flags bytes : List ℕ) (refused : Bool) (end : ℕ) (cells′ flags′ bytes′ : List ℕ) : Type 0 where
+  pub answers : Answers (first (reportChecks names a b (pairsFor a b cells flags))) (resultText names a b) bytes refused end bytes′
+  pub cells-left : cells′ ≡ unlessRefused (first (reportChecks names a b (pairsFor a b cells flags))) (λ r. cells) (stored cells 0 (synthesis a b .cells))
+  pub flags-left : flags′ ≡ unlessRefused (first (reportChecks names a b (pairsFor a b cells flags))) (λ r. flags) (stored flags 0 (synthesis a b .flags))

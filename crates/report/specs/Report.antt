@@ -30,17 +30,18 @@ abbrev pub roomOf : ℕ → ℕ → ℕ
 roomOf cells flags = lesserOf (lesserOf (cells / 32) flags) 1024
 
 -- The writer's checks: the text of table `sequencer` is made in 65,536 bytes before anything is printed.
-unfoldable pub textChecks : List ℕ → List ℕ → Table → List Check
-textChecks m p t = writerChecks t sequencerWord (signalNames m p) 65536
+unfoldable pub textChecks : List (List ℕ) → Table → List Check
+textChecks names t = writerChecks t sequencerWord names 65536
 
 -- The six lines of a verdict yes, with the text behind them.
-abbrev pub withText : List ℕ → List ℕ → Table → List ℕ → List ℕ
-withText m p t six = six ++ wholeText t sequencerWord (signalNames m p)
+abbrev pub withText : List (List ℕ) → Table → List ℕ → List ℕ
+withText names t six = six ++ wholeText t sequencerWord names
 
-module _ (m p : List ℕ) (a b : Table) where
+-- The signals of both have these names.
+module _ (names : List (List ℕ)) (a b : Table) where
   -- The checks after the reading, where the maker is given buffers of n pairs: the maker's and, with yes, the writer's.
   unfoldable pub reportChecks : ℕ → List Check
-  reportChecks n = synthesisChecks a b (n * 32) n ++ cond (synthesis a b .compatible) (textChecks m p (controller a b)) []
+  reportChecks n = synthesisChecks a b (n * 32) n ++ cond (synthesis a b .compatible) (textChecks names (controller a b)) []
 
   -- What is printed where no check applies: the six lines, which with yes the text follows.
   unfoldable pub resultText : List ℕ
@@ -48,17 +49,17 @@ module _ (m p : List ℕ) (a b : Table) where
       let s = synthesis a b in
       let t = controller a b in
       let six = figures (s .compatible) (t .header .states) (keptCount (s .flags)) (s .rounds) (stepCount t) (endCount t (s .flags)) in
-      cond (s .compatible) (withText m p t six) six
+      cond (s .compatible) (withText names t six) six
 
 -- ---- two texts
 
-module _ (m p : List ℕ) (room : ℕ) where
+module _ (room : ℕ) where
   -- What comes of the checks after the reading, with room for so many pairs.
   abbrev pub checkedOf : Reading → Reading → Checked
   checkedOf x y =
       let a = tableRead x in
       let b = tableRead y in
-      first (reportChecks m p a b (lentPairs a b room))
+      first (reportChecks (signalNames (y .signals)) a b (lentPairs a b room))
 
   -- By what was read: of the first refusal, of the reading or after it, the file, the number and the line; else module and plan as read.
   abbrev pub byReading : {A : Type 0} → (ℕ → ℕ → ℕ → A) → (Reading → Reading → A) → Joint → A
@@ -68,7 +69,7 @@ module _ (m p : List ℕ) (room : ℕ) where
 -- All that is printed, where so many cells are lent for module and plan, and so many cells and flags for the result.
 unfoldable pub reportText : List ℕ → List ℕ → (cm cp cells flags : ℕ) → List ℕ
 reportText m p cm cp cells flags =
-    byReading m p (roomOf cells flags) refusalText (λ x y. resultText m p (tableRead x) (tableRead y)) (readBoth Folded cm m cp p)
+    byReading (roomOf cells flags) refusalText (λ x y. resultText (signalNames (y .signals)) (tableRead x) (tableRead y)) (readBoth Folded cm m cp p)
 
 -- The four lent buffers: for the cells of module and plan, for the result's cells and flags.
 abbrev pub Buffers : Type 0
@@ -81,4 +82,4 @@ reportBuffers m p cm cp cells flags =
     let undone : Buffers = (replicate (length cm) 65535, replicate (length cp) 65535, cells, flags) in
     let result : Reading → Reading → Composition = λ x y. synthesis (tableRead x) (tableRead y) in
     let done : Reading → Reading → Buffers = λ x y. (x .cells, y .cells, stored cells 0 (result x y .cells), stored flags 0 (result x y .flags)) in
-    byReading m p (roomOf (length cells) (length flags)) (λ file number line. undone) done (readBoth Folded (length cm) m (length cp) p)
+    byReading (roomOf (length cells) (length flags)) (λ file number line. undone) done (readBoth Folded (length cm) m (length cp) p)

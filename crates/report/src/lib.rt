@@ -6,18 +6,18 @@ ghost use lib.ListN.{length, take, replicate};
 ghost use Rattle.theory.specs.Table.{table};
 ghost use Rattle.theory.specs.Checks.{first};
 ghost use Rattle.emit.specs.Buffer.{after, stored};
+ghost use Rattle.names.specs.LentNames.{texts};
 ghost use Rattle.report.specs.Lines.{refusalText};
 ghost use Rattle.report.specs.Report.{lesserOf, roomOf, textChecks, withText, reportText, reportBuffers};
 ghost use Rattle.report.specs.Parts.{sixOf, Answers, replyChecked, replyText, Makes, Holds, Fitting, Leaves};
 use printout::refusal_line;
-use reader::Together;
 use synthesis::Synthesis;
 use theory::Automaton;
 use theory::Refusal;
 use writer::Printed;
 
-mod labels;
 mod listing;
+mod named;
 mod printout;
 mod programs;
 
@@ -27,8 +27,8 @@ pub use programs::sequencer_output;
 
 // What was put into the lent buffer for two tables: whether it is the line of a refusal, and where it ends.
 struct Answer {
-    refused: bool,
-    end: usize,
+    pub refused: bool,
+    pub end: usize,
 }
 
 // The six lines over what the maker left in its buffers.
@@ -60,9 +60,8 @@ fn refuse(out: &mut [u8], r: Refusal) -> Answer
 }
 
 // The six lines and the text, which is made before anything is printed; or why there is no text.
-fn put_text<'a>(
-    m: &'a [u8],
-    p: &'a [u8],
+fn put_text(
+    names: &[&[u8]],
     header: Automaton,
     rounds: usize,
     cells: &[u16],
@@ -71,9 +70,9 @@ fn put_text<'a>(
     out: &mut [u8],
 ) -> Answer
     requires { ⌜ length (now text) ≡ 65536 ⌝ }
-    ensures { λ r. ⌜ Answers (first (textChecks (now (m .entry)) (now (p .entry)) (table header (now (cells .entry))))) (withText (now (m .entry)) (now (p .entry)) (table header (now (cells .entry))) (sixOf true header rounds (now (cells .entry)) (now (flags .entry)))) (now (out .entry)) (r .refused) (r .end) (now (out .exit)) ⌝ }
+    ensures { λ r. ⌜ Answers (first (textChecks (texts (now (names .entry))) (table header (now (cells .entry))))) (withText (texts (now (names .entry))) (table header (now (cells .entry))) (sixOf true header rounds (now (cells .entry)) (now (flags .entry)))) (now (out .entry)) (r .refused) (r .end) (now (out .exit)) ⌝ }
 {
-    match labels::write_text(m, p, header, cells, text) {
+    match writer::write(header, cells, b"sequencer", names, text) {
         Printed::Refused(r) => refuse(out, r),
         Printed::Length(n) => {
             let at = six_lines(out, true, header, rounds, cells, flags);
@@ -87,36 +86,27 @@ fn put_text<'a>(
 }
 
 // The same with a buffer of its own for the text.
-fn with_text<'a>(
-    m: &'a [u8],
-    p: &'a [u8],
+fn with_text(
+    names: &[&[u8]],
     header: Automaton,
     rounds: usize,
     cells: &[u16],
     flags: &[u8],
     out: &mut [u8],
 ) -> Answer
-    ensures { λ r. ⌜ Answers (first (textChecks (now (m .entry)) (now (p .entry)) (table header (now (cells .entry))))) (withText (now (m .entry)) (now (p .entry)) (table header (now (cells .entry))) (sixOf true header rounds (now (cells .entry)) (now (flags .entry)))) (now (out .entry)) (r .refused) (r .end) (now (out .exit)) ⌝ }
+    ensures { λ r. ⌜ Answers (first (textChecks (texts (now (names .entry))) (table header (now (cells .entry))))) (withText (texts (now (names .entry))) (table header (now (cells .entry))) (sixOf true header rounds (now (cells .entry)) (now (flags .entry)))) (now (out .entry)) (r .refused) (r .end) (now (out .exit)) ⌝ }
 {
     let mut text = [0u8; 65536];
-    put_text(m, p, header, rounds, cells, flags, &mut text, out)
+    put_text(names, header, rounds, cells, flags, &mut text, out)
 }
 
 // What is printed of the maker's reply.
-fn tell<'a>(
-    m: &'a [u8],
-    p: &'a [u8],
-    reply: Synthesis,
-    cells: &[u16],
-    flags: &[u8],
-    out: &mut [u8],
-) -> Answer
-    ensures { λ r. ⌜ Answers (replyChecked (now (m .entry)) (now (p .entry)) reply (now (cells .entry))) (replyText (now (m .entry)) (now (p .entry)) reply (now (cells .entry)) (now (flags .entry))) (now (out .entry)) (r .refused) (r .end) (now (out .exit)) ⌝ }
+fn tell(names: &[&[u8]], reply: Synthesis, cells: &[u16], flags: &[u8], out: &mut [u8]) -> Answer
+    ensures { λ r. ⌜ Answers (replyChecked (texts (now (names .entry))) reply (now (cells .entry))) (replyText (texts (now (names .entry))) reply (now (cells .entry)) (now (flags .entry))) (now (out .entry)) (r .refused) (r .end) (now (out .exit)) ⌝ }
 {
     match reply {
         Synthesis::Controller { header, rounds } => with_text(
-            m,
-            p,
+            names,
             header,
             rounds,
             cells,
@@ -135,9 +125,8 @@ fn tell<'a>(
 }
 
 // Makes the sequencer of the two tables in buffers for as many pairs as there are flags, and tells of it.
-fn make<'a>(
-    m: &'a [u8],
-    p: &'a [u8],
+fn make(
+    names: &[&[u8]],
     a: Automaton,
     ca: &[u16],
     b: Automaton,
@@ -147,10 +136,10 @@ fn make<'a>(
     out: &mut [u8],
 ) -> Answer
     requires { ⌜ length (now cells) ≡ length (now flags) * 32 ⌝ }
-    ensures { λ r. ⌜ Makes (now (m .entry)) (now (p .entry)) (table a (now (ca .entry))) (table b (now (cb .entry))) (length (now (flags .entry))) (now (out .entry)) (r .refused) (r .end) (now (cells .exit)) (now (flags .exit)) (now (out .exit)) ⌝ }
+    ensures { λ r. ⌜ Makes (texts (now (names .entry))) (table a (now (ca .entry))) (table b (now (cb .entry))) (length (now (flags .entry))) (now (out .entry)) (r .refused) (r .end) (now (cells .exit)) (now (flags .exit)) (now (out .exit)) ⌝ }
 {
     let reply = synthesis::synthesize(a, ca, b, cb, cells, flags);
-    tell(m, p, reply, cells, flags, out)
+    tell(names, reply, cells, flags, out)
 }
 
 fn lesser(a: usize, b: usize) -> usize
@@ -212,9 +201,8 @@ fn own_flags() -> [u8; 1024]
 }
 
 // Makes and tells in room of its own; the result is copied into the lent buffers only when nothing can be refused any more.
-fn make_apart<'a>(
-    m: &'a [u8],
-    p: &'a [u8],
+fn make_apart(
+    names: &[&[u8]],
     a: Automaton,
     ca: &[u16],
     b: Automaton,
@@ -224,21 +212,29 @@ fn make_apart<'a>(
     out: &mut [u8],
 ) -> Answer
     requires { ⌜ a .states * b .states ≤ 16777216 ⌝ }
-    ensures { λ r. ⌜ Leaves (now (m .entry)) (now (p .entry)) (table a (now (ca .entry))) (table b (now (cb .entry))) (now (cells .entry)) (now (flags .entry)) (now (out .entry)) (r .refused) (r .end) (now (cells .exit)) (now (flags .exit)) (now (out .exit)) ⌝ }
+    ensures { λ r. ⌜ Leaves (texts (now (names .entry))) (table a (now (ca .entry))) (table b (now (cb .entry))) (now (cells .entry)) (now (flags .entry)) (now (out .entry)) (r .refused) (r .end) (now (cells .exit)) (now (flags .exit)) (now (out .exit)) ⌝ }
 {
     let n = pairs_lent(a.states, b.states, cells.len(), flags.len());
     let ends = n * 32;
     let mut made = own_cells();
     let mut kept = own_flags();
-    let answer = make(m, p, a, ca, b, cb, &mut made[0..ends], &mut kept[0..n], out);
+    let answer = make(
+        names,
+        a,
+        ca,
+        b,
+        cb,
+        &mut made[0..ends],
+        &mut kept[0..n],
+        out,
+    );
     keep(answer.refused, &made[0..ends], &kept[0..n], cells, flags);
     answer
 }
 
 // Makes and tells, where the cells of the two tables may stand in longer buffers.
-fn make_in<'a>(
-    m: &'a [u8],
-    p: &'a [u8],
+fn make_in(
+    names: &[&[u8]],
     a: Automaton,
     ca: &[u16],
     b: Automaton,
@@ -249,20 +245,11 @@ fn make_in<'a>(
 ) -> Answer
     requires { ⌜ Holds a (now ca) ⌝ }
     requires { ⌜ Holds b (now cb) ⌝ }
-    ensures { λ r. ⌜ Leaves (now (m .entry)) (now (p .entry)) (table a (take (a .states * 32) (now (ca .entry)))) (table b (take (b .states * 32) (now (cb .entry)))) (now (cells .entry)) (now (flags .entry)) (now (out .entry)) (r .refused) (r .end) (now (cells .exit)) (now (flags .exit)) (now (out .exit)) ⌝ }
+    ensures { λ r. ⌜ Leaves (texts (now (names .entry))) (table a (take (a .states * 32) (now (ca .entry)))) (table b (take (b .states * 32) (now (cb .entry)))) (now (cells .entry)) (now (flags .entry)) (now (out .entry)) (r .refused) (r .end) (now (cells .exit)) (now (flags .exit)) (now (out .exit)) ⌝ }
 {
     let ea = a.states * 32;
     let eb = b.states * 32;
-    make_apart(m, p, a, &ca[0..ea], b, &cb[0..eb], cells, flags, out)
-}
-
-// Leaves a table without steps where the answer is a refusal.
-fn clear_if(refused: bool, cells: &mut [u16])
-    ensures { λ _. ⌜ now (cells .exit) ≡ cond refused (replicate (length (now (cells .entry))) 65535) (now (cells .entry)) ⌝ }
-{
-    if refused {
-        table::clear(cells);
-    }
+    make_apart(names, a, &ca[0..ea], b, &cb[0..eb], cells, flags, out)
 }
 
 // Reads the text m of the module and p of the plan, makes the sequencer, and writes what is to be printed. Returns where that ends: 65,608 at most
@@ -283,16 +270,13 @@ pub fn report<'a>(
     ensures { λ _. ⌜ (now (cm .exit), now (cp .exit), now (cells .exit), now (flags .exit)) ≡ reportBuffers (now (m .entry)) (now (p .entry)) (now (cm .entry)) (now (cp .entry)) (now (cells .entry)) (now (flags .entry)) ⌝ }
     ensures { λ r. ⌜ r ≤ 65608 ⌝ }
 {
-    match reader::read_together(m, p, cm, cp) {
-        Together::Refused(r) => refusal_line(out, 0, r.text, r.number, r.line),
-        Together::Tables {
-            component,
-            specification,
-        } => {
-            let answer = make_in(m, p, component, cm, specification, cp, cells, flags, out);
-            clear_if(answer.refused, cm);
-            clear_if(answer.refused, cp);
-            answer.end
-        }
+    let read = reader::read_named(m, p, cm, cp);
+    if read.refused {
+        let refusal = read.refusal;
+        return refusal_line(out, 0, refusal.text, refusal.number, refusal.line);
     }
+    let answer = named::make_named(m, p, read, cm, cp, cells, flags, out);
+    table::clear_if(answer.refused, cm);
+    table::clear_if(answer.refused, cp);
+    answer.end
 }

@@ -1,6 +1,7 @@
 // All that looks at the cells of one interface automaton (document 01: table), or at the headers of two: judge, mirror, the monitor, the checks
 // that every call begins with, refusals, and counts of what calls leave in buffers.
 ghost use mathlib.Core.Path.{_≡_};
+ghost use mathlib.Core.Bool.{cond};
 ghost use lib.ListN.{length, replicate};
 ghost use Rattle.theory.specs.Table.{table};
 ghost use Rattle.theory.specs.Checks.{first, tableChecks};
@@ -90,5 +91,14 @@ pub fn clear(cells: &mut [u16])
 {
     for i in 0..cells.len() {
         cells[i] = 65535;
+    }
+}
+
+// Removes every step if what the cells were for is refused; else leaves them as they are.
+pub fn clear_if(refused: bool, cells: &mut [u16])
+    ensures { λ _. ⌜ now (cells .exit) ≡ cond refused (replicate (length (now (cells .entry))) 65535) (now (cells .entry)) ⌝ }
+{
+    if refused {
+        clear(cells);
     }
 }

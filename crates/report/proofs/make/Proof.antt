@@ -21,7 +21,7 @@ same-length-3 c = search needs
 returns : tie.Need-returns
 returns c =
     let s = c .before .before .before .before .before .before .before .before .before .before .synthesize .ensures in
-    pairs-made _ _ _ _ _ _ _ _ (c .before .before .before .before .before .before .before .before .before .before .before .before .before .before .before .before .before .before .before .before .pre) _ (s .0) (s .1 .0) (s .1 .1 .0) _ _ _ _ (c .before .before .tell .ensures)
+    pairs-made _ _ _ _ _ _ _ (c .before .before .before .before .before .before .before .before .before .before .before .before .before .before .before .before .before .before .pre) _ (s .0) (s .1 .0) (s .1 .1 .0) _ _ _ _ (c .before .before .tell .ensures)
 
 pub make-spec : {M : Type 1} → statement M
 make-spec =

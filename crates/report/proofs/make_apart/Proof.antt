@@ -52,7 +52,7 @@ part-keep-end c =
     let w = c .before .before .before .before .before in
     let o = w .before .before .before .before .before in
     let n = o .before .pairs-lent in
-    let same = same-len-mid 0 (n .result * 32 - 0) (o .own-cells .result) (w .make .last .1 .1 .1 .1 .1 .1 .0) (w .make .kept .1 .1 .1 .1 .1 .1 .0) in
+    let same = same-len-mid 0 (n .result * 32 - 0) (o .own-cells .result) (w .make .last .1 .1 .1 .1 .1 .0) (w .make .kept .1 .1 .1 .1 .1 .0) in
     omega (arith, o .own-cells .ensures, n .ensures .1)
 
 sub-keep-2 : tie.Need-sub-keep-2
@@ -66,7 +66,7 @@ part-keep-end-2 c =
     let w = c .before .before .before .before .before .before .before in
     let o = w .before .before .before .before in
     let n = o .before .before .pairs-lent in
-    let same = same-len-mid 0 (n .result - 0) (o .own-flags .result) (w .make .last .1 .1 .1 .1 .1 .1 .1 .0) (w .make .kept .1 .1 .1 .1 .1 .1 .1 .0) in
+    let same = same-len-mid 0 (n .result - 0) (o .own-flags .result) (w .make .last .1 .1 .1 .1 .1 .1 .0) (w .make .kept .1 .1 .1 .1 .1 .1 .0) in
     omega (arith, o .own-flags .ensures, n .ensures .1)
 
 keep-requires : tie.Need-keep-requires
@@ -87,12 +87,12 @@ returns c =
     let w = k .before .before .before .before .before .before .before .before .before .before .before in
     let o = w .before .before .before .before in
     let l = o .before .before in
-    let s = l .before .before .before .before .before .before .before .before .args in
+    let s = l .before .before .before .before .before .before .args in
     let n = l .pairs-lent .result in
     let f = l .pairs-lent .ensures in
-    leaves-made _ _ _ _ (now (s .cells)) (now (s .flags)) n (f .0) (o .before .own-cells .result) (o .own-flags .result) (n * 32 - 0) (n - 0)
+    leaves-made _ _ _ (now (s .cells)) (now (s .flags)) n (f .0) (o .before .own-cells .result) (o .own-flags .result) (n * 32 - 0) (n - 0)
     (omega arith) (omega arith) (omega (arith, f .1, o .before .own-cells .ensures)) (omega (arith, f .1, o .own-flags .ensures)) _ _ _ _ _ _ _ _ _ _
-    (w .make .kept .1 .1 .1 .1 .1 .1 .0) (w .make .kept .1 .1 .1 .1 .1 .1 .1 .0) (w .make .ensures) (k .keep .ensures)
+    (w .make .kept .1 .1 .1 .1 .1 .0) (w .make .kept .1 .1 .1 .1 .1 .1 .0) (w .make .ensures) (k .keep .ensures)
 
 pub make-apart-spec : {M : Type 1} → statement M
 make-apart-spec =

@@ -31,7 +31,7 @@ part-make-apart-end-2 : tie.Need-part-make-apart-end-2
 part-make-apart-end-2 c = search needs
 
 make-apart-requires : tie.Need-make-apart-requires
-make-apart-requires c κs = let s = c .before .before .before .before .before .before .before .before .before .before .before .before .before .before in few-pairs (s .args .a) (s .args .b) _ _ (s .pre .0) (s .pre .1)
+make-apart-requires c κs = let s = c .before .before .before .before .before .before .before .before .before .before .before .before in few-pairs (s .args .a) (s .args .b) _ _ (s .pre .0) (s .pre .1)
 
 same-length : tie.Need-same-length
 same-length c = search needs
@@ -45,8 +45,8 @@ same-length-3 c = search needs
 returns : tie.Need-returns
 returns c =
     let m = c .before .before .before .before .before .before in
-    let s = m .before .before .before .before .before .before .before .before .before .before .before .before .before .before .before .args in
-    leaves-read _ _ (s .a) (s .b) (now (s .ca)) (now (s .cb)) (s .a .states * 32 - 0) (s .b .states * 32 - 0) (omega arith) (omega arith) _ _ _ _ _ _ _ _
+    let s = m .before .before .before .before .before .before .before .before .before .before .before .before .before .args in
+    leaves-read _ (s .a) (s .b) (now (s .ca)) (now (s .cb)) (s .a .states * 32 - 0) (s .b .states * 32 - 0) (omega arith) (omega arith) _ _ _ _ _ _ _ _
     (m .make-apart .ensures)
 
 pub make-in-spec : {M : Type 1} → statement M

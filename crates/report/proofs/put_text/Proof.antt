@@ -3,8 +3,11 @@ use borrow.Author.Needs.{needs}
 use Rattle.report.proofs.put_text.Statement.{statement}
 use Rattle.report.proofs.put_text.Tie as tie
 
-write-text-requires : tie.Need-write-text-requires
-write-text-requires c κs = search needs
+slice-aggregate-write : tie.Need-slice-aggregate-write
+slice-aggregate-write c = search needs
+
+write-requires : tie.Need-write-requires
+write-requires c κs = search needs
 
 enum-known-r : tie.Need-enum-known-r
 enum-known-r c = search needs
@@ -25,7 +28,7 @@ part-put-start : tie.Need-part-put-start
 part-put-start c = search needs
 
 part-put-end : tie.Need-part-put-end
-part-put-end c = search (text-within, needs)
+part-put-end c = text-within _ _ _ _ _ (c .before .before .before .before .before .before .before .before .before .before .before .before .before .before .before .before .before .before .pre) (c .before .before .before .before .before .before .before .before .before .before .before .write .ensures .0) (c .before .before .before .before .before .before .before .before .before .before .before .write .ensures .1) _ (c .before .before .before .before .before .before .before .n .given .1) (search needs)
 
 put-requires : tie.Need-put-requires
 put-requires c κs = search needs
@@ -47,18 +50,15 @@ same-length-4 c = search needs
 
 returns-2 : tie.Need-returns-2
 returns-2 c =
-    let f = c .before .before in
-    let s = f .before .before .before .before .before .before in
-    let k = s .before .before in
-    let w = k .before .before .before .before .before in
-    text-follows _ _ _ _ _ _ (w .before .before .before .before .before .before .before .before .pre) (w .write-text .ensures .0) (w .write-text .ensures .1) _ (k .before .n .given .1) _ _ _ _ _ _ (s .six-lines .ensures)
-    (f .put .ensures)
+    text-follows _ _ _ _ _ (c .before .before .before .before .before .before .before .before .before .before .before .before .before .before .before .before .before .before .before .before .before .before .pre) (c .before .before .before .before .before .before .before .before .before .before .before .before .before .before .before .write .ensures .0) (c .before .before .before .before .before .before .before .before .before .before .before .before .before .before .before .write .ensures .1) _ (c .before .before .before .before .before .before .before .before .before .before .before .n .given .1) _ _ _ _ _ _
+    (c .before .before .before .before .before .before .before .before .six-lines .ensures) (c .before .before .put .ensures)
 
 pub put-text-spec : {M : Type 1} → statement M
 put-text-spec =
     tie.close
     (tie.spec
-    write-text-requires
+    slice-aggregate-write
+    write-requires
     enum-known-r
     refuse-requires
     enum-known-n

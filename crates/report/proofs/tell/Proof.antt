@@ -27,7 +27,7 @@ same-length c = search needs
 returns : tie.Need-returns
 returns c =
     let f = c .before .before in
-    tell-yes _ _ _ _ _ _ _ _ _ _ (f .before .before .before .reply .given .1) _ (f .with-text .ensures)
+    tell-yes _ _ _ _ _ _ _ _ _ (f .before .before .before .reply .given .1) _ (f .with-text .ensures)
 
 same-length-2 : tie.Need-same-length-2
 same-length-2 c = search needs
@@ -35,7 +35,7 @@ same-length-2 c = search needs
 returns-2 : tie.Need-returns-2
 returns-2 c =
     let f = c .before .before in
-    tell-none _ _ _ _ _ _ _ _ _ _ (f .before .before .before .reply2 .given .1) (f .six-lines .ensures)
+    tell-none _ _ _ _ _ _ _ _ _ (f .before .before .before .reply2 .given .1) (f .six-lines .ensures)
 
 same-length-3 : tie.Need-same-length-3
 same-length-3 c = search needs
@@ -43,7 +43,7 @@ same-length-3 c = search needs
 returns-3 : tie.Need-returns-3
 returns-3 c =
     let f = c .before .before in
-    tell-refused _ _ _ _ _ _ _ _ _ (f .before .before .before .reply3 .given .1) _ (f .refuse .ensures .0) (f .refuse .ensures .1)
+    tell-refused _ _ _ _ _ _ _ _ (f .before .before .before .reply3 .given .1) _ (f .refuse .ensures .0) (f .refuse .ensures .1)
 
 pub tell-spec : {M : Type 1} → statement M
 tell-spec =

@@ -1,6 +1,6 @@
 use mathlib.Core.Path.{_≡_}
 use Prim.Native.Nat.{_-_, _≤_}
-use Rattle.reader.specs.State.{signalsOf, Fit}
+use Rattle.names.specs.Numbering.{signalsOf, Fit}
 use Rattle.reader.specs.Clashes.{inRows, clashesBelow}
 use Rattle.reader.proofs.Rows.{visit-start, visit-done}
 use borrow.Author.Needs.{needs}
@@ -9,7 +9,7 @@ use Rattle.reader.proofs.clashes.list.Tie as tie
 
 abbrev Inv-loop : tie.InvT-loop
 Inv-loop m p signals clashes₀ i₀ clashes i =
-    (i ≤ signals .count) × Fit signals × (clashes ≡ inRows (clashesBelow m p (signalsOf m p signals) i))
+    (i ≤ signals .count) × Fit m p signals × (clashes ≡ inRows (clashesBelow m p (signalsOf m p signals) i))
 
 abbrev μ-loop : tie.MeasureT-loop
 μ-loop m p signals clashes₀ i₀ clashes i = signals .count - i

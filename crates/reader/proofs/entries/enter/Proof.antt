@@ -1,4 +1,4 @@
-use Rattle.reader.proofs.Entering.{enter-table, declaration-within, declaration-fits, declaration-small, enter-declaration, step-start-fits, step-ordered, step-small, enter-step}
+use Rattle.reader.proofs.Entering.{enter-table, declaration-fits, declaration-entry, enter-declaration, step-ordered, enter-step}
 use borrow.Author.Needs.{needs}
 use Rattle.reader.proofs.entries.enter.Statement.{statement}
 use Rattle.reader.proofs.entries.enter.Tie as tie
@@ -15,44 +15,52 @@ enum-known-fields-2 c = search needs
 name-start-requires : tie.Need-name-start-requires
 name-start-requires c κs = search needs
 
-add-start : tie.Need-add-start
-add-start c = search (declaration-fits, needs)
+after-requires : tie.Need-after-requires
+after-requires c κs = search needs
 
-sub-named : tie.Need-sub-named
-sub-named c = search (declaration-within, needs)
+add-entry : tie.Need-add-entry
+add-entry c = search (declaration-fits, needs)
 
-named-requires : tie.Need-named-requires
-named-requires c κs = let b = c .before .before .before .before .before .before .before in declaration-small _ _ _ _ _ (b .args .st) _ (b .pre .1) _ (c .before .before .fields2 .given .1) _ (c .name-start .ensures)
+entry-requires : tie.Need-entry-requires
+entry-requires c κs = search needs
 
 declare-requires : tie.Need-declare-requires
-declare-requires c κs = search needs
+declare-requires c κs =
+    let b = c .before .before .before .before .before .before .before .before .before .before in
+    (b .pre .0 .fit, declaration-entry _ _ _ _ _ (b .args .st) _ (b .pre .1) _ (c .before .before .before .before .fields2 .given .1) _ (c .before .before .name-start .ensures) _ (c .before .after .ensures .0) _ (c .entry .ensures))
 
 enum-known-fields-3 : tie.Need-enum-known-fields-3
 enum-known-fields-3 c = search needs
 
-add-named : tie.Need-add-named
-add-named c = search (step-start-fits, needs)
+after-requires-2 : tie.Need-after-requires-2
+after-requires-2 c κs = search needs
 
-sub-named-2 : tie.Need-sub-named-2
-sub-named-2 c = search (step-ordered, needs)
+sub-before : tie.Need-sub-before
+sub-before c = search (step-ordered, needs)
 
-named-requires-2 : tie.Need-named-requires-2
-named-requires-2 c κs = let b = c .before .before .before .before .before .before in step-small _ _ _ _ _ (b .args .st) _ (b .pre .1) _ _ _ _ (c .before .fields3 .given .1)
+before-requires : tie.Need-before-requires
+before-requires c κs = search needs
 
 step-requires : tie.Need-step-requires
 step-requires c κs = search needs
 
 returns : tie.Need-returns
-returns c = search (enter-table, needs)
+returns c =
+    let b = c .before .before .before .before .before .before .before .before in
+    enter-table _ _ _ _ _ (b .args .st) _ (b .pre .1) _ _ _ _ (c .before .before .fields .given .1) (b .pre .0) _ (c .start .ensures)
 
 returns-2 : tie.Need-returns-2
-returns-2 c = search (enter-declaration, needs)
+returns-2 c =
+    let b = c .before .before .before .before .before .before .before .before .before .before .before in
+    enter-declaration _ _ _ _ _ (b .args .st) _ (b .pre .1) _ (c .before .before .before .before .before .fields2 .given .1) _ (c .before .before .before .name-start .ensures) _ (c .before .before .after .ensures .0) _ (c .before .entry .ensures) _ _ (b .pre .0) _ (c .declare .ensures)
 
 same-length : tie.Need-same-length
 same-length c = search needs
 
 returns-3 : tie.Need-returns-3
-returns-3 c = search (enter-step, needs)
+returns-3 c =
+    let b = c .before .before .before .before .before .before .before .before .before .before .before .before .before in
+    enter-step _ _ _ _ _ (b .args .st) _ (b .pre .1) _ _ _ _ (c .before .before .before .before .before .before .before .fields3 .given .1) _ _ _ (c .before .before .before .before .before .after2 .ensures .0) (c .before .before .before .before .before2 .ensures .0) _ _ _ (c .before .before .step .ensures)
 
 pub enter-spec : {M : Type 1} → statement M
 enter-spec =
@@ -62,14 +70,14 @@ enter-spec =
     start-requires
     enum-known-fields-2
     name-start-requires
-    add-start
-    sub-named
-    named-requires
+    after-requires
+    add-entry
+    entry-requires
     declare-requires
     enum-known-fields-3
-    add-named
-    sub-named-2
-    named-requires-2
+    after-requires-2
+    sub-before
+    before-requires
     step-requires
     returns
     returns-2

@@ -3,8 +3,8 @@ use borrow.Author.Needs.{needs}
 use Rattle.reader.proofs.entries.step.Statement.{statement}
 use Rattle.reader.proofs.entries.step.Tie as tie
 
-number-of-requires : tie.Need-number-of-requires
-number-of-requires c κs = search needs
+find-requires : tie.Need-find-requires
+find-requires c κs = search needs
 
 lacks-requires : tie.Need-lacks-requires
 lacks-requires c κs = search needs
@@ -14,7 +14,8 @@ stop-requires c κs = search needs
 
 returns : tie.Need-returns
 returns c =
-    step-lacking _ _ _ _ _ (c .before .before .before .before .before .before .before .before .before .pre .fit) (c .before .before .before .number-of .ensures) _ _ _ (c .before .before .before .before .before .before .before .before .before .pre) _ (c .before .before .lacks .ensures) (search needs) _ (c .stop .ensures)
+    let s = c .before .before .before .before .before .before .before .before .before .before .pre in
+    step-lacking _ _ _ _ _ (s .fit) (c .before .before .before .find .ensures) _ _ _ s _ (c .before .before .lacks .ensures) (search needs) _ (c .stop .ensures)
 
 mul-put : tie.Need-mul-put
 mul-put c = search (step-state-fits, needs)
@@ -33,7 +34,8 @@ same-length c = search needs
 
 returns-2 : tie.Need-returns-2
 returns-2 c =
-    step-twice _ _ _ _ _ (c .before .before .before .before .before .before .before .before .before .before .before .before .before .before .pre .fit) (c .before .before .before .before .before .before .before .before .number-of .ensures) _ _ _ (c .before .before .before .before .before .before .before .before .before .before .before .before .before .before .pre) _ (c .before .before .before .before .before .before .before .lacks .ensures) (search needs) _ _ (c .before .before .before .before .put .ensures .0) (c .before .before .before .before .put .ensures .1) (search needs) _ (c .stop2 .ensures)
+    let s = c .before .before .before .before .before .before .before .before .before .before .before .before .before .before .before .pre in
+    step-twice _ _ _ _ _ (s .fit) (c .before .before .before .before .before .before .before .before .find .ensures) _ _ _ s _ (c .before .before .before .before .before .before .before .lacks .ensures) (search needs) _ _ (c .before .before .before .before .put .ensures .0) (c .before .before .before .before .put .ensures .1) (search needs) _ (c .stop2 .ensures)
 
 go-requires : tie.Need-go-requires
 go-requires c κs = search needs
@@ -43,13 +45,14 @@ same-length-2 c = search needs
 
 returns-3 : tie.Need-returns-3
 returns-3 c =
-    step-good _ _ _ _ _ (c .before .before .before .before .before .before .before .before .before .before .before .before .before .before .pre .fit) (c .before .before .before .before .before .before .before .before .number-of .ensures) _ _ _ (c .before .before .before .before .before .before .before .before .before .before .before .before .before .before .pre) _ (c .before .before .before .before .before .before .before .lacks .ensures) (search needs) _ _ (c .before .before .before .before .put .ensures .0) (c .before .before .before .before .put .ensures .1) (search needs) _ (c .go .ensures)
+    let s = c .before .before .before .before .before .before .before .before .before .before .before .before .before .before .before .pre in
+    step-good _ _ _ _ _ (s .fit) (c .before .before .before .before .before .before .before .before .find .ensures) _ _ _ s _ (c .before .before .before .before .before .before .before .lacks .ensures) (search needs) _ _ (c .before .before .before .before .put .ensures .0) (c .before .before .before .before .put .ensures .1) (search needs) _ (c .go .ensures)
 
 pub step-spec : {M : Type 1} → statement M
 step-spec =
     tie.close
     (tie.spec
-    number-of-requires
+    find-requires
     lacks-requires
     stop-requires
     returns

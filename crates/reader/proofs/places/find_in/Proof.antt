@@ -34,7 +34,7 @@ returns-2 : tie.Need-returns-2
 returns-2 c = search (found-undeclared, needs)
 
 place-of-requires : tie.Need-place-of-requires
-place-of-requires c κs = search (held-both, needs)
+place-of-requires c κs = held-both _ _ _ _ _ _ _ _ (c .before .before .before .before .before .before .before .before .before .before .read-both .ensures) _ (record { number = 0; text = 0; from = 0; length = 0 }) (search needs) _ (c .before .is-either .ensures) (search needs)
 
 same-length-5 : tie.Need-same-length-5
 same-length-5 c = search needs

@@ -1,6 +1,5 @@
 use native.Mathlib.Omega.{arith}
-use Rattle.reader.proofs.Whole.{short-text, reads-long, reads-none, reads-lines}
-use Rattle.reader.proofs.Joined.{cleared}
+use Rattle.reader.proofs.Whole.{short-text, cleared, reads-long, reads-none, reads-lines}
 use borrow.Author.Needs.{needs}
 use Rattle.reader.proofs.texts.read.Statement.{statement}
 use Rattle.reader.proofs.texts.read.Tie as tie
@@ -21,8 +20,7 @@ same-length : tie.Need-same-length
 same-length c = search needs
 
 returns : tie.Need-returns
-returns c =
-    reads-long _ _ _ _ _ _ (c .before .before .before .before .before .before .before .before .before .before .before .pre) _ (c .before .before .before .text-of .ensures .0) _ (omega arith) _ (c .before .fresh .ensures) _ (c .refuse .ensures)
+returns c = reads-long _ _ _ _ _ (c .before .before .before .before .before .before .before .before .before .before .before .pre) _ (c .before .before .before .text-of .ensures .0) _ _ (c .before .before .before .before .before .before .clear .ensures) (omega arith) _ (c .before .fresh .ensures) _ (c .refuse .ensures)
 
 fresh-requires-2 : tie.Need-fresh-requires-2
 fresh-requires-2 c κs = search needs
@@ -34,17 +32,23 @@ same-length-2 : tie.Need-same-length-2
 same-length-2 c = search needs
 
 returns-2 : tie.Need-returns-2
-returns-2 c =
-    reads-none _ _ _ _ _ _ (c .before .before .before .before .before .before .before .before .before .before .before .before .pre) _ (c .before .before .before .before .text-of .ensures .0) _ (omega arith) (omega arith) _ (c .before .fresh2 .ensures) _ (c .refuse2 .ensures)
+returns-2 c = reads-none _ _ _ _ _ (c .before .before .before .before .before .before .before .before .before .before .before .before .pre) _ (c .before .before .before .before .text-of .ensures .0) _ _ (c .before .before .before .before .before .before .before .clear .ensures) (omega arith) (omega arith) _ (c .before .fresh2 .ensures) _ (c .refuse2 .ensures)
 
 read-lines-requires : tie.Need-read-lines-requires
-read-lines-requires c κs = (search (cleared, needs), short-text _ _ (c .before .before .before .text-of .ensures .0) (omega arith))
+read-lines-requires c κs =
+    let t = c .before .before .before .text-of .ensures .0 in
+    (c .before .before .before .before .before .before .before .before .before .before .before .pre, (search (cleared, needs), short-text _ _ t (omega arith)))
+
+clear-if-requires : tie.Need-clear-if-requires
+clear-if-requires c κs = search needs
 
 same-length-3 : tie.Need-same-length-3
 same-length-3 c = search needs
 
 returns-3 : tie.Need-returns-3
-returns-3 c = search (reads-lines, needs)
+returns-3 c =
+    reads-lines _ _ _ _ _ (c .before .before .before .before .before .before .before .before .before .before .before .before .before .before .before .before .before .before .pre) _ (c .before .before .before .before .before .before .before .before .before .before .text-of .ensures .0) _ _ (c .before .before .before .before .before .before .before .before .before .before .before .before .before .clear .ensures) (omega arith) (omega arith)
+    _ _ _ (c .before .before .before .before .before .before .read-lines .ensures) (search needs) (c .before .before .clear-if .ensures)
 
 pub read-spec : {M : Type 1} → statement M
 read-spec =
@@ -61,5 +65,6 @@ read-spec =
     same-length-2
     returns-2
     read-lines-requires
+    clear-if-requires
     same-length-3
     returns-3)

@@ -1,7 +1,6 @@
-use Rattle.report.proofs.Whole.{on-true}
 use borrow.Author.Needs.{needs}
-use Rattle.report.proofs.clear_if.Statement.{statement}
-use Rattle.report.proofs.clear_if.Tie as tie
+use Rattle.table.proofs.clear_if.Statement.{statement}
+use Rattle.table.proofs.clear_if.Tie as tie
 
 clear-requires : tie.Need-clear-requires
 clear-requires c κs = search needs
@@ -10,7 +9,7 @@ same-length : tie.Need-same-length
 same-length c = search needs
 
 returns : tie.Need-returns
-returns c = on-true _ _ _ _ (c .before .before .before .before .if1 .taken) (c .before .before .clear .ensures)
+returns c = rw (c .before .before .before .before .if1 .taken) (c .before .before .clear .ensures)
 
 returns-2 : tie.Need-returns-2
 returns-2 c = search needs

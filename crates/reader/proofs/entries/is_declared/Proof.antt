@@ -1,7 +1,7 @@
-use Rattle.names.proofs.NamePlaces.{declared-either}
+use Rattle.reader.proofs.Finding.{declared-either}
 use borrow.Author.Needs.{needs}
-use Rattle.names.proofs.places.is_declared.Statement.{statement}
-use Rattle.names.proofs.places.is_declared.Tie as tie
+use Rattle.reader.proofs.entries.is_declared.Statement.{statement}
+use Rattle.reader.proofs.entries.is_declared.Tie as tie
 
 declared-requires : tie.Need-declared-requires
 declared-requires c κs = search needs
