@@ -5,10 +5,12 @@ ghost use mathlib.Core.Path.{_≡_};
 ghost use mathlib.Core.List.{[], _∷_, _++_};
 ghost use Prim.Native.Nat.{_+_, _%_, _≤_, _<_};
 ghost use lib.Dec.{leb};
-ghost use lib.ListN.{length};
+ghost use lib.ListN.{length, take};
+ghost use Rattle.text.specs.Lines.{roleWord};
 ghost use Rattle.text.specs.Writing.{decimal};
 ghost use Rattle.emit.specs.Buffer.{after, stored};
 ghost use Rattle.emit.specs.Rows.{tableText, signalText, stepText};
+use text::Role;
 
 // The bytes of s, for which there is room.
 fn copy(d: &mut [u8], at: usize, s: &[u8])
@@ -109,16 +111,46 @@ pub fn table_line(d: &mut [u8], at: usize, name: &[u8], states: usize, initial: 
     number(d, k, initial, 10)
 }
 
-// Puts the line that declares a signal, as an input or as an output.
-pub fn signal_line(d: &mut [u8], at: usize, input: bool, name: &[u8]) -> usize
-    ensures { λ r. ⌜ r ≡ after (length (now (d .entry))) at (signalText input (now (name .entry))) ⌝ }
-    ensures { λ r. ⌜ now (d .exit) ≡ stored (now (d .entry)) at (signalText input (now (name .entry))) ⌝ }
+// Word of a role: the first `length` of the bytes.
+struct Word {
+    bytes: [u8; 3],
+    length: usize,
+}
+
+// Gives the word of a role. A further role is one more case here, and nowhere else where lines are put.
+fn role_word(role: Role) -> Word
+    ensures { λ r. ⌜ r .length ≡ length (roleWord role) ⌝ }
+    ensures { λ r. ⌜ take (r .length) (r .bytes) ≡ roleWord role ⌝ }
 {
-    if input {
-        let i = field(d, at, b"in", 9);
-        return field(d, i, name, 10);
+    match role {
+        Role::Input => Word {
+            bytes: [b'i', b'n', 0],
+            length: 2,
+        },
+        Role::Output => Word {
+            bytes: [b'o', b'u', b't'],
+            length: 3,
+        },
     }
-    let i = field(d, at, b"out", 9);
+}
+
+// Counts the bytes of a role's word.
+pub fn role_width(role: Role) -> usize
+    ensures { λ r. ⌜ r ≡ length (roleWord role) ⌝ }
+{
+    let word = role_word(role);
+    word.length
+}
+
+// Puts the line that declares a signal in a role.
+pub fn signal_line(d: &mut [u8], at: usize, role: Role, name: &[u8]) -> usize
+    ensures { λ r. ⌜ r ≡ after (length (now (d .entry))) at (signalText role (now (name .entry))) ⌝ }
+    ensures { λ r. ⌜ now (d .exit) ≡ stored (now (d .entry)) at (signalText role (now (name .entry))) ⌝ }
+{
+    let word = role_word(role);
+    let bytes = word.bytes;
+    let n = word.length;
+    let i = field(d, at, &bytes[0..n], 9);
     field(d, i, name, 10)
 }
 

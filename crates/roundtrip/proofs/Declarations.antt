@@ -26,7 +26,7 @@ use Rattle.roundtrip.proofs.Put.{Put, put-blank, put-next, put-skip}
 use Rattle.roundtrip.proofs.Rows.{Writable, apart-names, signal-plain, signal-entry}
 
 -- The lists of a table at a declared signal are those of its role.
-role-only : (t : Table) (a : ℕ) → Valid t → T (declared t a) → rolesAt (t .header) a ≡ only (roleOf t a)
+role-only : (t : Table) (a : ℕ) → Valid t → T (declared t a) → rolesAt (t .header) a ≡ only (roleOf (t .header) a)
 role-only t a v d = go (member (t .header .inputs) a) (member (t .header .outputs) a) (v .disjoint .inputs a) d
   where
     go : (x y : Bool) → (T x → ¬ T y) → T (x || y) → _≡_ {A = Bool × Bool} (x, y) (only (cond x Input Output))
@@ -81,7 +81,7 @@ module _ (t : Table) (name : List ℕ) (names final : List (List ℕ)) (w : Writ
         here = rw is tt
 
         r : Role
-        r = roleOf t x
+        r = roleOf (t .header) x
 
         i : ℕ
         i = indexOf (nameOf names x) (a .signals)

@@ -115,11 +115,11 @@ module _ (t : Table) (name : List ℕ) (names : List (List ℕ)) (w : Writable t
   module _ (a : ℕ) (d : T (declared t a)) where
     pub signal-plain : Plain (signalRow t names a)
     unfolding signalRow
-    signal-plain = plain-cons _ _ _ (role-field (roleOf t a)) (plain-last _ (name-field (nameOf names a) (w .named a d)))
+    signal-plain = plain-cons _ _ _ (role-field (roleOf (t .header) a)) (plain-last _ (name-field (nameOf names a) (w .named a d)))
 
-    pub signal-entry : byKind Declarations (signalRow t names a) ≡ declaration (roleOf t a) (nameOf names a)
+    pub signal-entry : byKind Declarations (signalRow t names a) ≡ declaration (roleOf (t .header) a) (nameOf names a)
     unfolding signalRow
-    signal-entry = kind-declaration (roleOf t a) (nameOf names a) (w .named a d)
+    signal-entry = kind-declaration (roleOf (t .header) a) (nameOf names a) (w .named a d)
 
     module _ (s : ℕ) (h : s < t .header .states) (k : cellAt t s a < t .header .states) where
       from-small : s ≤ 65535

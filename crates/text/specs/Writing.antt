@@ -5,6 +5,7 @@ use mathlib.Core.List.{List, [], _∷_, _++_, map}
 use Prim.Native.Nat.{ℕ, zero, suc, _+_, _/_, _%_}
 use lib.Dec.{T, ltb}
 use lib.ListN.{length, getD, drop}
+use Rattle.theory.specs.declared.Automaton.{Automaton}
 use Rattle.theory.specs.Bounded.{any}
 use Rattle.theory.specs.Closure.{isSome}
 use Rattle.theory.specs.Table.{Table, automaton, cellAt, member}
@@ -52,8 +53,8 @@ unfoldable pub signals : Table → List ℕ
 signals t = those (declared t) 0 32
 
 -- The role of a declared signal.
-abbrev pub roleOf : Table → ℕ → Role
-roleOf t a = cond (member (t .header .inputs) a) Input Output
+abbrev pub roleOf : Automaton → ℕ → Role
+roleOf h a = cond (member (h .inputs) a) Input Output
 
 -- The name of a signal; a missing entry is an empty name.
 abbrev pub nameOf : List (List ℕ) → ℕ → List ℕ
@@ -63,7 +64,7 @@ unfoldable pub tableRow : Table → List ℕ → List (List ℕ)
 tableRow t name = tableWord ∷ name ∷ decimal (t .header .states) ∷ decimal (t .header .initial) ∷ []
 
 unfoldable pub signalRow : Table → List (List ℕ) → ℕ → List (List ℕ)
-signalRow t names a = roleWord (roleOf t a) ∷ nameOf names a ∷ []
+signalRow t names a = roleWord (roleOf (t .header) a) ∷ nameOf names a ∷ []
 
 unfoldable pub stepRow : Table → List (List ℕ) → ℕ → ℕ → List (List ℕ)
 stepRow t names s a = stepWord ∷ decimal s ∷ nameOf names a ∷ decimal (cellAt t s a) ∷ []

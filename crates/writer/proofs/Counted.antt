@@ -1,6 +1,5 @@
 -- How long the lines of a table's text are.
 use mathlib.Core.Path.{_≡_, ap}
-use mathlib.Core.Bool.{Bool}
 use mathlib.Core.List.{List, [], _++_}
 use Prim.Native.Nat.{ℕ, _+_, _-_, _*_, _^_, _≤_, _<_}
 use native.Mathlib.Omega.{arith}
@@ -8,8 +7,9 @@ use lib.Count.{trailingZeros}
 use lib.ListN.{length, getD, length-append}
 use borrow.Author.Tests.{lt-ltb, le-ltb}
 use Rattle.theory.specs.declared.Automaton.{Automaton}
-use Rattle.theory.specs.Table.{declaredSet, table, member}
-use Rattle.text.specs.Writing.{decimal, nameOf, textLength}
+use Rattle.theory.specs.Table.{declaredSet, table}
+use Rattle.text.specs.declared.Role.{Role}
+use Rattle.text.specs.Writing.{decimal, roleOf, nameOf, textLength}
 use Rattle.emit.specs.Rows.{tableText, signalText}
 use Rattle.emit.proofs.Decimal.{decimal-most}
 use Rattle.emit.proofs.Rows.{table-long, step-long}
@@ -34,11 +34,11 @@ module _ (whole rest : List ℕ) (total : ℕ) (l : Counted whole total rest) wh
 
 module _ (whole : List ℕ) (total left s left′ : ℕ) (bound : left < 2 ^ 32) (more : ¬ (left ≡ 0)) (e : s ≡ trailingZeros 32 left)
     (h : left′ ≡ left - 2 ^ trailingZeros 32 left) (names : List (List ℕ)) (name : List ℕ) (g : name ≡ nameOf names s) (x : ℕ) where
-  pub signals-counted : (inputs : ℕ) → Counted whole total (signalLines left inputs names) → (input : Bool) → input ≡ member inputs s
-      → x ≡ length (signalText input name) → Counted whole (total + x) (signalLines left′ inputs names)
-  signals-counted inputs l input f p =
-      counted-next whole (signalLines left inputs names) total l (signalText input name) (signalLines left′ inputs names) x
-      (signals-next left inputs names bound more s e input f name g left′ h) p
+  pub signals-counted : (a : Automaton) → Counted whole total (signalLines left a names) → (role : Role) → role ≡ roleOf a s
+      → x ≡ length (signalText role name) → Counted whole (total + x) (signalLines left′ a names)
+  signals-counted a l role f p =
+      counted-next whole (signalLines left a names) total l (signalText role name) (signalLines left′ a names) x
+      (signals-next left a names bound more s e role f name g left′ h) p
 
   pub steps-counted : (n : ℕ) (cells : List ℕ) (state first : ℕ) → first ≡ state * 32 → Counted whole total (stateLines n cells names state left) → state < n
       → length cells ≡ n * 32 → x ≡ length (cellText n state name (getD cells (first + s) 0)) → Counted whole (total + x) (stateLines n cells names state left′)
@@ -61,12 +61,11 @@ module _ (n from cell : ℕ) (name : List ℕ) where
 -- ---- the text
 
 pub text-long : (a : Automaton) (cells : List ℕ) (name : List ℕ) (names : List (List ℕ)) (x y : ℕ) → x ≡ length (decimal (a .states)) → y ≡ length (decimal (a .initial))
-    → (set : ℕ) → set ≡ declaredSet a → (j k : ℕ) → j ≡ length (signalLines set (a .inputs) names) → k ≡ length (stepLines (a .states) cells names)
+    → (j k : ℕ) → j ≡ length (signalLines (declaredSet a) a names) → k ≡ length (stepLines (a .states) cells names)
     → length name + x + y + 9 + j + k ≡ textLength (table a cells) name names
 unfolding textLength
-text-long a cells name names x y e f set g j k p q =
+text-long a cells name names x y e f j k p q =
     let title = tableText name (a .states) (a .initial) in
-    let lines = signalLines (declaredSet a) (a .inputs) names in
+    let lines = signalLines (declaredSet a) a names in
     let steps = stepLines (a .states) cells names in
-    let j′ : j ≡ length lines = rw g at p in
-    omega (arith, e, f, q, table-long name (a .states) (a .initial), ap length (text-parts a cells names name), length-append (title ++ lines) steps, length-append title lines)
+    omega (arith, e, f, p, q, table-long name (a .states) (a .initial), ap length (text-parts a cells names name), length-append (title ++ lines) steps, length-append title lines)

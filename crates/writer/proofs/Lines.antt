@@ -21,7 +21,9 @@ use Rattle.theory.specs.Checks.{declared}
 use Rattle.theory.specs.Valid.{Valid}
 use Rattle.theory.proofs.Filled.{any-default}
 use Rattle.sets.proofs.Visit.{low}
-use Rattle.text.specs.Writing.{printed, those, signals, nameOf, tableRow, signalRow, stepRow, stepRows, wholeText, hasStep, enabledSignals}
+use Rattle.text.specs.declared.Role.{Role}
+use Rattle.text.specs.declared.Role.the-variants.{Input, Output}
+use Rattle.text.specs.Writing.{printed, those, signals, roleOf, nameOf, tableRow, signalRow, stepRow, stepRows, wholeText, hasStep, enabledSignals}
 use Rattle.text.proofs.Written.{printed-append}
 use Rattle.emit.specs.Rows.{tableText, signalText, stepText}
 use Rattle.emit.proofs.Buffer.{Puts, puts-none, puts-then}
@@ -33,15 +35,22 @@ use Rattle.writer.specs.Rows.{signalLines, cellText, steps, stateLines, 
 
 -- ---- signals
 
-pub signals-next : (left inputs : ℕ) (names : List (List ℕ)) → left < 2 ^ 32 → ¬ (left ≡ 0) → (s : ℕ) → s ≡ trailingZeros 32 left → (input : Bool) → input ≡ member inputs s
-    → (name : List ℕ) → name ≡ nameOf names s → (left′ : ℕ) → left′ ≡ left - 2 ^ trailingZeros 32 left
-    → signalLines left inputs names ≡ signalText input name ++ signalLines left′ inputs names
-unfolding signalLines signalRow
-signals-next left inputs names bound more s e input f name g left′ h = rw (those-lowest 32 left (omega arith) bound, f, g, e, h) (printed-append (_ ∷ []) _)
+module _ (h : Automaton) (s : ℕ) (b : Bool) (e : b ≡ member (h .inputs) s) where
+  pub role-input : b ≡ true → Input ≡ roleOf h s
+  role-input f = rw (← e, f)
 
-pub signals-none : (left inputs : ℕ) (names : List (List ℕ)) → left ≡ 0 → signalLines left inputs names ≡ []
+  pub role-output : b ≡ false → Output ≡ roleOf h s
+  role-output f = rw (← e, f)
+
+pub signals-next : (left : ℕ) (h : Automaton) (names : List (List ℕ)) → left < 2 ^ 32 → ¬ (left ≡ 0) → (s : ℕ) → s ≡ trailingZeros 32 left → (role : Role) → role ≡ roleOf h s
+    → (name : List ℕ) → name ≡ nameOf names s → (left′ : ℕ) → left′ ≡ left - 2 ^ trailingZeros 32 left
+    → signalLines left h names ≡ signalText role name ++ signalLines left′ h names
+unfolding signalLines signalRow
+signals-next left h names bound more s e role f name g left′ k = rw (those-lowest 32 left (omega arith) bound, f, g, e, k) (printed-append (_ ∷ []) _)
+
+pub signals-none : (left : ℕ) (h : Automaton) (names : List (List ℕ)) → left ≡ 0 → signalLines left h names ≡ []
 unfolding signalLines printed
-signals-none left inputs names e = rw (e, those-empty 32)
+signals-none left h names e = rw (e, those-empty 32)
 
 -- ---- a cell
 
@@ -155,7 +164,7 @@ module _ (a : Automaton) (cells : List ℕ) (names : List (List ℕ)) where
   pub text-writable : Valid (table a cells) → Named acts names → Writable (a .states) cells names
   text-writable v m = record { few = v .few-states; size = v .size; entry = λ s x h k c. m .entry x k (text-known v s x h k c) }
 
-  all-signals : printed (map (signalRow (table a cells) names) (signals (table a cells))) ≡ signalLines acts (a .inputs) names
+  all-signals : printed (map (signalRow (table a cells) names) (signals (table a cells))) ≡ signalLines acts a names
   unfolding signals signalLines signalRow
   all-signals =
       ap (λ (l : List ℕ). printed (map (signalRow (table a cells) names) l))
@@ -170,7 +179,7 @@ module _ (a : Automaton) (cells : List ℕ) (names : List (List ℕ)) where
     abbrev text : List ℕ
     text = wholeText (table a cells) name names
 
-    pub text-parts : text ≡ (tableText name (a .states) (a .initial) ++ signalLines acts (a .inputs) names) ++ stepLines (a .states) cells names
+    pub text-parts : text ≡ (tableText name (a .states) (a .initial) ++ signalLines acts a names) ++ stepLines (a .states) cells names
     unfolding wholeText tableRow
     text-parts =
         printed-append (tableRow (table a cells) name ∷ map (signalRow (table a cells) names) (signals (table a cells)))
@@ -179,7 +188,7 @@ module _ (a : Automaton) (cells : List ℕ) (names : List (List ℕ)) where
         (rw (all-signals, all-steps 0 (a .states)))
 
     pub text-put : (d : List ℕ) (i j r : ℕ) (b b′ b″ : List ℕ) → Puts d 0 (tableText name (a .states) (a .initial)) i b
-        → (set : ℕ) → set ≡ acts → Puts b i (signalLines set (a .inputs) names) j b′ → Puts b′ j (stepLines (a .states) cells names) r b″
+        → Puts b i (signalLines acts a names) j b′ → Puts b′ j (stepLines (a .states) cells names) r b″
         → Puts d 0 text r b″
-    text-put d i j r b b′ b″ p set e q v =
-        rw text-parts (puts-then d 0 _ _ j r b′ b″ (puts-then d 0 _ _ i j b b′ p (rw e at q)) v)
+    text-put d i j r b b′ b″ p q v =
+        rw text-parts (puts-then d 0 _ _ j r b′ b″ (puts-then d 0 _ _ i j b b′ p q) v)

@@ -5,15 +5,15 @@ use mathlib.Core.List.{List, [], map}
 use Prim.Native.Nat.{ℕ, _+_, _*_, _≤_, _<_}
 use lib.Dec.{T, ltb}
 use lib.ListN.{length, getD}
+use Rattle.theory.specs.declared.Automaton.{Automaton}
 use Rattle.theory.specs.Sets.{has}
 use Rattle.theory.specs.Table.{header, Table, table}
 use Rattle.text.specs.Writing.{printed, those, signalRow, stepRow, stepRows, hasStep}
 use Rattle.emit.specs.Rows.{stepText}
 
--- The declarations of the signals of a set, by ascending number; those of `inputs` are inputs.
-unfoldable pub signalLines : ℕ → ℕ → List (List ℕ) → List ℕ
-signalLines set inputs names =
-    printed (map (signalRow (table (header 0 0 inputs 0) []) names) (those (has set) 0 32))
+-- The declarations of the signals of a set, by ascending number, in the roles that the header gives them.
+unfoldable pub signalLines : ℕ → Automaton → List (List ℕ) → List ℕ
+signalLines set h names = printed (map (signalRow (table h []) names) (those (has set) 0 32))
 
 -- A cell of n states at the state s; nothing if it holds no step.
 abbrev pub cellText : ℕ → ℕ → List ℕ → ℕ → List ℕ

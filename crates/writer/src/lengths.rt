@@ -9,30 +9,29 @@ ghost use Rattle.text.specs.Writing.{textLength};
 ghost use Rattle.emit.specs.Rows.{signalText};
 ghost use Rattle.names.specs.Names.{texts, Named};
 ghost use Rattle.writer.specs.Rows.{signalLines, cellText, stateLines, stepLines, Known, Writable};
+use crate::rows;
+use text::Role;
 use theory::Automaton;
 
-// A declaration.
-fn signal_line(input: bool, name: &[u8]) -> usize
+// Measures a declaration.
+fn signal_line(role: Role, name: &[u8]) -> usize
     requires { ⌜ length (now name) ≤ 16 ⌝ }
-    ensures { λ r. ⌜ (r ≡ length (signalText input (now (name .entry)))) × (r ≤ 21) ⌝ }
+    ensures { λ r. ⌜ (r ≡ length (signalText role (now (name .entry)))) × (r ≤ 21) ⌝ }
 {
-    if input {
-        return name.len() + 4;
-    }
-    name.len() + 5
+    emit::role_width(role) + name.len() + 2
 }
 
-// The declarations of a set of signals.
-fn signal_lines(signals: u32, inputs: u32, names: &[&[u8]]) -> usize
-    requires { ⌜ Named signals (texts (now names)) ⌝ }
-    ensures { λ r. ⌜ (r ≡ length (signalLines signals inputs (texts (now (names .entry))))) × (r ≤ 21 * 2 ^ 32) ⌝ }
+// Measures the declarations of all signals.
+fn signal_lines(a: Automaton, names: &[&[u8]]) -> usize
+    requires { ⌜ Named (declaredSet a) (texts (now names)) ⌝ }
+    ensures { λ r. ⌜ (r ≡ length (signalLines (declaredSet a) a (texts (now (names .entry))))) × (r ≤ 21 * 2 ^ 32) ⌝ }
 {
     let mut total = 0;
-    let mut left = signals;
+    let mut left = table::declared(a);
     while left != 0 {
         let s = sets::lowest(left) as usize;
-        let input = sets::contains(inputs, s);
-        total += signal_line(input, names[s]);
+        let role = rows::role_of(a, s);
+        total += signal_line(role, names[s]);
         left = sets::rest(left);
     }
     total
@@ -91,6 +90,6 @@ pub fn text(a: Automaton, cells: &[u16], name: &[u8], names: &[&[u8]]) -> usize
     ensures { λ r. ⌜ r ≡ textLength (table a (now (cells .entry))) (now (name .entry)) (texts (now (names .entry))) ⌝ }
 {
     let head = name.len() + emit::width(a.states) + emit::width(a.initial) + 9;
-    let middle = signal_lines(table::declared(a), a.inputs, names);
+    let middle = signal_lines(a, names);
     head + middle + step_lines(a, cells, names)
 }

@@ -4,24 +4,35 @@ ghost use Prim.Native.Nat.{_<_};
 ghost use lib.ListN.{length};
 ghost use Rattle.theory.specs.Table.{declaredSet, table};
 ghost use Rattle.theory.specs.Valid.{Valid};
-ghost use Rattle.text.specs.Writing.{wholeText, nameOf};
+ghost use Rattle.text.specs.Writing.{roleOf, wholeText, nameOf};
 ghost use Rattle.emit.specs.Buffer.{after, stored};
 ghost use Rattle.names.specs.Names.{texts, Named};
 ghost use Rattle.writer.specs.Rows.{signalLines, cellText, stateLines, stepLines, Known, Writable};
+use text::Role;
 use theory::Automaton;
 
-// The declarations of a set of signals, by ascending number.
-fn signal_lines(d: &mut [u8], at: usize, signals: u32, inputs: u32, names: &[&[u8]]) -> usize
-    requires { ⌜ Named signals (texts (now names)) ⌝ }
-    ensures { λ r. ⌜ r ≡ after (length (now (d .entry))) at (signalLines signals inputs (texts (now (names .entry)))) ⌝ }
-    ensures { λ r. ⌜ now (d .exit) ≡ stored (now (d .entry)) at (signalLines signals inputs (texts (now (names .entry)))) ⌝ }
+// Gives the role of a declared signal.
+pub fn role_of(a: Automaton, signal: usize) -> Role
+    ensures { λ r. ⌜ r ≡ roleOf a signal ⌝ }
+{
+    if sets::contains(a.inputs, signal) {
+        return Role::Input;
+    }
+    Role::Output
+}
+
+// Puts the declarations of all signals, by ascending number.
+fn signal_lines(d: &mut [u8], at: usize, a: Automaton, names: &[&[u8]]) -> usize
+    requires { ⌜ Named (declaredSet a) (texts (now names)) ⌝ }
+    ensures { λ r. ⌜ r ≡ after (length (now (d .entry))) at (signalLines (declaredSet a) a (texts (now (names .entry)))) ⌝ }
+    ensures { λ r. ⌜ now (d .exit) ≡ stored (now (d .entry)) at (signalLines (declaredSet a) a (texts (now (names .entry)))) ⌝ }
 {
     let mut end = at;
-    let mut left = signals;
+    let mut left = table::declared(a);
     while left != 0 {
         let s = sets::lowest(left) as usize;
-        let input = sets::contains(inputs, s);
-        end = emit::signal_line(d, end, input, names[s]);
+        let role = role_of(a, s);
+        end = emit::signal_line(d, end, role, names[s]);
         left = sets::rest(left);
     }
     end
@@ -97,6 +108,6 @@ pub fn text(d: &mut [u8], a: Automaton, cells: &[u16], name: &[u8], names: &[&[u
     ensures { λ r. ⌜ now (d .exit) ≡ stored (now (d .entry)) 0 (wholeText (table a (now (cells .entry))) (now (name .entry)) (texts (now (names .entry)))) ⌝ }
 {
     let i = emit::table_line(d, 0, name, a.states, a.initial);
-    let j = signal_lines(d, i, table::declared(a), a.inputs, names);
+    let j = signal_lines(d, i, a, names);
     step_lines(d, j, a, cells, names)
 }

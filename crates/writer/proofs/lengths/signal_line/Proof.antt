@@ -1,20 +1,22 @@
 use native.Mathlib.Omega.{arith}
-use Rattle.emit.proofs.Rows.{input-long, output-long}
+use Rattle.emit.proofs.Rows.{signal-long, word-most}
 use borrow.Author.Needs.{needs}
 use Rattle.writer.proofs.lengths.signal_line.Statement.{statement}
 use Rattle.writer.proofs.lengths.signal_line.Tie as tie
 
-add-result : tie.Need-add-result
-add-result c = search needs
+role-width-requires : tie.Need-role-width-requires
+role-width-requires c κs = search needs
 
-returns : tie.Need-returns
-returns c = (input-long _ _ (c .if1 .taken), omega arith)
+add-result : tie.Need-add-result
+add-result c = omega (arith, word-most (c .before .before .args .role), c .role-width .ensures)
 
 add-result-2 : tie.Need-add-result-2
-add-result-2 c = search needs
+add-result-2 c = omega (arith, word-most (c .before .before .args .role), c .role-width .ensures)
 
-returns-2 : tie.Need-returns-2
-returns-2 c = (output-long _ _ (c .if1 .left), omega arith)
+returns : tie.Need-returns
+returns c =
+    let a = c .before .before .args in
+    (rw (c .role-width .ensures) (signal-long (a .role) (a .name .now)), omega (arith, word-most (a .role), c .role-width .ensures))
 
 pub signal-line-spec : {M : Type 1} → statement M
-signal-line-spec = tie.close (tie.spec add-result returns add-result-2 returns-2)
+signal-line-spec = tie.close (tie.spec role-width-requires add-result add-result-2 returns)

@@ -7,17 +7,12 @@ use Rattle.writer.proofs.rows.text.Tie as tie
 table-line-requires : tie.Need-table-line-requires
 table-line-requires c κs = search needs
 
-declared-requires : tie.Need-declared-requires
-declared-requires c κs = search needs
-
 signal-lines-requires : tie.Need-signal-lines-requires
-signal-lines-requires c κs =
-    let s = c .before .before .before .before .before .before .before .before .before in
-    rw (c .declared .ensures) (s .pre .1)
+signal-lines-requires c κs = c .before .before .before .before .before .before .before .before .pre .1
 
 step-lines-requires : tie.Need-step-lines-requires
 step-lines-requires c κs =
-    let s = c .before .before .before .before .before .before .before .before .before .before .before .before .before in
+    let s = c .before .before .before .before .before .before .before .before .before .before .before .before in
     let a = s .args in
     (text-writable (a .a) (a .cells .now) (texts (a .names .now)) (s .pre .0) (s .pre .1), text-known (a .a) (a .cells .now) (texts (a .names .now)) (s .pre .0))
 
@@ -28,11 +23,11 @@ returns : tie.Need-returns
 returns c =
     let k = c .before .before in
     let j = k .before .before .before .before in
-    let i = j .before .before .before .before .before in
+    let i = j .before .before .before .before in
     let a = i .before .before .before .before .before .args in
-    text-put (a .a) (a .cells .now) (texts (a .names .now)) (a .name .now) _ _ _ _ _ _ _ (i .table-line .ensures) _ (j .before .declared .ensures) (j .signal-lines .ensures) (k .step-lines .ensures)
+    text-put (a .a) (a .cells .now) (texts (a .names .now)) (a .name .now) _ _ _ _ _ _ _ (i .table-line .ensures) (j .signal-lines .ensures) (k .step-lines .ensures)
 
 pub text-spec : {M : Type 1} → statement M
 text-spec =
     tie.close
-    (tie.spec table-line-requires declared-requires signal-lines-requires step-lines-requires same-length returns)
+    (tie.spec table-line-requires signal-lines-requires step-lines-requires same-length returns)
