@@ -24,7 +24,8 @@ use Rattle.text.specs.declared.Spelling.{Spelling}
 use Rattle.text.specs.declared.Spelling.the-variants.{Exact, Folded}
 use Rattle.text.specs.Fields.{upto, matches, nameOk, numberOk, value}
 use Rattle.text.specs.Lines.{table, declaration, step, tableWord, roleWord, stepWord, takesStep, byKind, tableLine, declarationLine, stepLine}
-use Rattle.text.specs.Writing.{decimal, roleOf, nameOf, tableRow, signalRow, stepRow, textLength, ambiguous, writerChecks}
+use Rattle.text.specs.Roles.{roleOf}
+use Rattle.text.specs.Writing.{decimal, nameOf, tableRow, signalRow, stepRow, textLength, ambiguous, writerChecks}
 use Rattle.text.proofs.Decimal.{decimal-ok, decimal-value}
 use Rattle.text.proofs.Names.{match-self, match-sym}
 use Rattle.roundtrip.proofs.Lines.{Field, name-field, number-field, Plain, plain-last, plain-cons}

@@ -6,11 +6,13 @@ use mathlib.Core.List.{List, [], _∷_, _++_, map}
 use Prim.Native.Nat.{ℕ, suc, _<_}
 use lib.Dec.{T, eqb, ltb}
 use lib.ListN.{length}
-use Rattle.theory.specs.Table.{Table, member, cellAt}
+use Rattle.theory.specs.Table.{Table, cellAt}
 use Rattle.theory.specs.Checks.{declared}
 use Rattle.theory.specs.Valid.{Valid}
+use Rattle.text.specs.declared.Role.{Role}
 use Rattle.text.specs.declared.Spelling.{Spelling}
 use Rattle.text.specs.Fields.{matches, same}
+use Rattle.text.specs.Roles.{hasRole}
 use Rattle.text.specs.Reading.{Signal, Reading, finished, readAlone, both, readBoth, tableRead}
 use Rattle.text.specs.Writing.{signals, nameOf}
 use Rattle.text.specs.Lookup.{lookup, lookupNumber, lookupAlone, lookupNumberAlone}
@@ -20,8 +22,7 @@ pub record SameByName (t : Table) (names : ℕ → List ℕ) (u : Table) (names�
   pub states : u .header .states ≡ t .header .states
   pub initial : u .header .initial ≡ t .header .initial
   pub name : (a : ℕ) → T (declared t a) → names′ (number a) ≡ names a
-  pub inputs : (a : ℕ) → T (declared t a) → member (u .header .inputs) (number a) ≡ member (t .header .inputs) a
-  pub outputs : (a : ℕ) → T (declared t a) → member (u .header .outputs) (number a) ≡ member (t .header .outputs) a
+  pub roles : (r : Role) (a : ℕ) → T (declared t a) → hasRole r (u .header) (number a) ≡ hasRole r (t .header) a
   pub only : (b : ℕ) → T (declared u b) → (a : ℕ) × T (declared t a) × (number a ≡ b)
   pub steps : (s a : ℕ) → s < t .header .states → T (declared t a) → cellAt u s (number a) ≡ cellAt t s a
   pub no-others : (s b : ℕ) → s < t .header .states → b < 32 → ¬ T (declared u b) → cellAt u s b ≡ 65535

@@ -5,17 +5,15 @@ use mathlib.Core.List.{List, [], _∷_, _++_, map}
 use Prim.Native.Nat.{ℕ, zero, suc, _+_, _/_, _%_}
 use lib.Dec.{T, ltb}
 use lib.ListN.{length, getD, drop}
-use Rattle.theory.specs.declared.Automaton.{Automaton}
 use Rattle.theory.specs.Bounded.{any}
 use Rattle.theory.specs.Closure.{isSome}
-use Rattle.theory.specs.Table.{Table, automaton, cellAt, member}
+use Rattle.theory.specs.Table.{Table, automaton, cellAt}
 use Rattle.theory.specs.Checks.{Check, unplaced, first, unlessRefused, declared, tableChecks}
-use Rattle.text.specs.declared.Role.{Role}
-use Rattle.text.specs.declared.Role.the-variants.{Input, Output}
 use Rattle.text.specs.declared.Spelling.{Spelling}
 use Rattle.text.specs.declared.Spelling.the-variants.{Exact, Folded}
 use Rattle.text.specs.Fields.{matches, nameOk}
 use Rattle.text.specs.Lines.{tableWord, roleWord, stepWord}
+use Rattle.text.specs.Roles.{roleOf}
 
 -- ---- numbers
 
@@ -51,10 +49,6 @@ those f s (suc n) = cond (f s) (s ∷ those f (suc s) n) (those f (suc s) n)
 -- The declared signals, by ascending number.
 unfoldable pub signals : Table → List ℕ
 signals t = those (declared t) 0 32
-
--- The role of a declared signal.
-abbrev pub roleOf : Automaton → ℕ → Role
-roleOf h a = cond (member (h .inputs) a) Input Output
 
 -- The name of a signal; a missing entry is an empty name.
 abbrev pub nameOf : List (List ℕ) → ℕ → List ℕ

@@ -9,7 +9,8 @@ use borrow.Author.Tests.{lt-ltb, le-ltb}
 use Rattle.theory.specs.declared.Automaton.{Automaton}
 use Rattle.theory.specs.Table.{declaredSet, table}
 use Rattle.text.specs.declared.Role.{Role}
-use Rattle.text.specs.Writing.{decimal, roleOf, nameOf, textLength}
+use Rattle.text.specs.Roles.{roleOf}
+use Rattle.text.specs.Writing.{decimal, nameOf, textLength}
 use Rattle.emit.specs.Rows.{tableText, signalText}
 use Rattle.emit.proofs.Decimal.{decimal-most}
 use Rattle.emit.proofs.Rows.{table-long, step-long}

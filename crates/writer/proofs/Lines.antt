@@ -23,7 +23,8 @@ use Rattle.theory.proofs.Filled.{any-default}
 use Rattle.sets.proofs.Visit.{low}
 use Rattle.text.specs.declared.Role.{Role}
 use Rattle.text.specs.declared.Role.the-variants.{Input, Output}
-use Rattle.text.specs.Writing.{printed, those, signals, roleOf, nameOf, tableRow, signalRow, stepRow, stepRows, wholeText, hasStep, enabledSignals}
+use Rattle.text.specs.Roles.{roleOf}
+use Rattle.text.specs.Writing.{printed, those, signals, nameOf, tableRow, signalRow, stepRow, stepRows, wholeText, hasStep, enabledSignals}
 use Rattle.text.proofs.Written.{printed-append}
 use Rattle.emit.specs.Rows.{tableText, signalText, stepText}
 use Rattle.emit.proofs.Buffer.{Puts, puts-none, puts-then}
