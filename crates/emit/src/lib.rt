@@ -147,6 +147,9 @@ pub fn signal_line(d: &mut [u8], at: usize, role: Role, name: &[u8]) -> usize
     ensures { λ r. ⌜ r ≡ after (length (now (d .entry))) at (signalText role (now (name .entry))) ⌝ }
     ensures { λ r. ⌜ now (d .exit) ≡ stored (now (d .entry)) at (signalText role (now (name .entry))) ⌝ }
 {
+    if d.len() < at {
+        return at;
+    }
     let word = role_word(role);
     let bytes = word.bytes;
     let n = word.length;
@@ -204,13 +207,16 @@ fn has_room(bytes: usize, at: usize, name: usize) -> bool
     name <= room - 18
 }
 
-// Puts the line of a step. Nearly all lines of a text are steps, so it asks for room once and not field by field.
+// Puts the line of a step. Nearly all lines of a text are steps, so it asks for room once and not field by field, and stops at once past the end.
 pub fn step_line(d: &mut [u8], at: usize, from: usize, name: &[u8], to: usize) -> usize
     ensures { λ r. ⌜ r ≡ after (length (now (d .entry))) at (stepText from (now (name .entry)) to) ⌝ }
     ensures { λ r. ⌜ now (d .exit) ≡ stored (now (d .entry)) at (stepText from (now (name .entry)) to) ⌝ }
 {
     if has_room(d.len(), at, name.len()) {
         return step_within(d, at, from, name, to);
+    }
+    if d.len() < at {
+        return at;
     }
     let i = field(d, at, b"step", 9);
     let j = number(d, i, from, 9);

@@ -3,10 +3,10 @@ use lib.Count.{trailingZeros}
 use lib.ListN.{length}
 use lib.Pow.{pow-pos}
 use Rattle.names.proofs.Names.{name-lent, lent-length, named-lowest, named-rest}
-use Rattle.writer.proofs.Lines.{signals-next, signals-none}
+use Rattle.writer.proofs.Lines.{signals-next, signals-room, signals-none}
 use Prim.Native.Nat.{_^_, _<_}
 use Rattle.theory.specs.Table.{declaredSet}
-use Rattle.emit.proofs.Buffer.{Left, left-all, left-next, left-none}
+use Rattle.writer.proofs.Counted.{Left, left-all, left-next, left-none}
 use Rattle.names.specs.Names.{texts, Named}
 use Rattle.writer.specs.Rows.{signalLines}
 use borrow.Author.Needs.{needs}
@@ -34,7 +34,7 @@ loop-holds : tie.Need-loop-holds Inv-loop μ-loop
 loop-holds c =
     let e = c .declared .ensures in
     let s = c .before .before in
-    (search needs, rw e (s .pre), left-all _ _ _ _ (rw e))
+    (search needs, rw e (s .pre .0), left-all _ _ _ _ (rw e))
 
 lowest-requires : tie.Need-lowest-requires Inv-loop μ-loop
 lowest-requires c κs = search needs
@@ -52,7 +52,12 @@ shared-slice-copy-out-signal-line : tie.Need-shared-slice-copy-out-signal-line I
 shared-slice-copy-out-signal-line c = below (c .before .before)
 
 signal-line-requires : tie.Need-signal-line-requires Inv-loop μ-loop
-signal-line-requires c κs = search needs
+signal-line-requires c κs =
+    let s = c .before .before .before in
+    let l = s .before .before in
+    let e = l .before .before .before in
+    signals-room _ _ _ _ _ _ _ _ (l .loop .inv .2) (e .pre .1) (l .loop .inv .0) (s .before .loop-test .taken)
+    _ (s .lowest .ensures) (c .before .before .role-of .result) (c .before .before .role-of .ensures) _ (name-lent (e .args .names .now) _ _ (below s))
 
 rest-requires : tie.Need-rest-requires Inv-loop μ-loop
 rest-requires c κs = search needs
