@@ -103,15 +103,15 @@ stored-sets d at (x ∷ s) = stored-sets (set d at x) (suc at) s
 stored-part : (d : List ℕ) (at : ℕ) (s : List ℕ) → at + length s ≤ length d → stored d at s ≡ take at d ++ s ++ drop (at + length s) d
 stored-part d at s h = stored-sets d at s ∙ sets-eq s d at h
 
--- A part that was lent comes back with s.
+-- A part of the buffer that was lent comes back with s.
 pub stored-lent : (d : List ℕ) (at e : ℕ) (s : List ℕ) → e ≡ at + length s → e ≤ length d → putMid at (e - at) d s ≡ stored d at s
 stored-lent d at e s f h = rw (post-is at e d (omega arith), f) (sym (append-assoc (take at d) s _) ∙ sym (stored-part d at s (omega arith)))
 
--- From the first place on.
+-- A text stored from the first place on.
 pub stored-front : (d s : List ℕ) → length s ≤ length d → stored d 0 s ≡ s ++ drop (length s) d
 stored-front d s h = let z : 0 + length s ≡ length s = omega arith in stored-part d 0 s (omega arith) ∙ rw z
 
--- With the byte that ends it.
+-- A text stored with the byte that ends it.
 pub stored-ended : (d b : List ℕ) (at : ℕ) (s : List ℕ) (i end : ℕ) → b ≡ stored d at s → i ≡ at + length s → set b i end ≡ stored d at (s ++ end ∷ [])
 unfolding stored
 stored-ended d b at s i end e f = rw (e, f) (sym (stored-append d at s (end ∷ [])))

@@ -17,13 +17,13 @@ use Rattle.emit.specs.Rows.{tableText, signalText, stepText}
 use Rattle.emit.proofs.Buffer.{Puts, puts-then, length-stored}
 use Rattle.emit.proofs.Decimal.{decimal-most}
 
--- A first field with its tab, then the others.
+-- A line is its first field with a tab, then a line of the others.
 line-cons : (f g : List ℕ) (fs : List (List ℕ)) → printed ((f ∷ g ∷ fs) ∷ []) ≡ (f ++ 9 ∷ []) ++ printed ((g ∷ fs) ∷ [])
 unfolding tabbed printed
 line-cons f g fs = append-assoc f (9 ∷ tabbed (g ∷ fs)) (10 ∷ []) ∙ sym (append-assoc f (9 ∷ []) (tabbed (g ∷ fs) ++ 10 ∷ []))
 
 module _ (d : List ℕ) (at : ℕ) where
-  -- A line of one field, of more.
+  -- A line of one field is put, and one of more.
   line-one : (f : List ℕ) (r : ℕ) (b : List ℕ) → Puts d at (f ++ 10 ∷ []) r b → Puts d at (printed ((f ∷ []) ∷ [])) r b
   unfolding tabbed printed
   line-one f r b p = p
@@ -102,7 +102,7 @@ module _ (bytes at name : ℕ) where
     | no g ↦ lt-leb name (bytes - at - 18) (omega arith) ∙ sym (lt-leb (at + name + 18) bytes (omega arith))
   ]
 
--- ---- its fields, where there is room
+-- ---- the fields of a step, where there is room
 
 -- A field and the byte that ends it were put into d, whole.
 abbrev Ended : List ℕ → ℕ → List ℕ → ℕ → ℕ → List ℕ → Type 0

@@ -12,7 +12,7 @@ ghost use Rattle.emit.specs.Buffer.{after, stored};
 ghost use Rattle.emit.specs.Rows.{tableText, signalText, stepText};
 use text::Role;
 
-// The bytes of s, for which there is room.
+// Copies the bytes of s, for which there is room.
 fn copy(d: &mut [u8], at: usize, s: &[u8])
     requires { ⌜ at + length (now s) ≤ length (now d) ⌝ }
     ensures { λ _. ⌜ now (d .exit) ≡ stored (now (d .entry)) at (now (s .entry)) ⌝ }
@@ -49,7 +49,7 @@ pub fn field(d: &mut [u8], at: usize, s: &[u8], end: u8) -> usize
     put(d, i, &last)
 }
 
-// The last digit of a number.
+// Gives the last digit of a number, as a byte.
 fn digit(n: usize) -> u8
     ensures { λ r. ⌜ r ≡ 48 + n % 10 ⌝ }
 {
@@ -75,7 +75,7 @@ pub fn width(n: usize) -> usize
     5
 }
 
-// The digits of a number into as many bytes, last digit first.
+// Writes the digits of a number into as many bytes, last digit first.
 fn digits(d: &mut [u8], n: usize)
     requires { ⌜ length (now d) ≡ length (decimal n) ⌝ }
     ensures { λ _. ⌜ now (d .exit) ≡ decimal n ⌝ }
@@ -89,7 +89,7 @@ fn digits(d: &mut [u8], n: usize)
     }
 }
 
-// Puts a decimal number as a field, with the byte that ends it; of a number from 100,000 on only the last five digits.
+// Puts a decimal number as a field, and the byte that ends it. From 100,000 on a number keeps its last five digits only.
 pub fn number(d: &mut [u8], at: usize, n: usize, end: u8) -> usize
     ensures { λ r. ⌜ r ≡ after (length (now (d .entry))) at (decimal n ++ end ∷ []) ⌝ }
     ensures { λ r. ⌜ now (d .exit) ≡ stored (now (d .entry)) at (decimal n ++ end ∷ []) ⌝ }
@@ -111,7 +111,7 @@ pub fn table_line(d: &mut [u8], at: usize, name: &[u8], states: usize, initial: 
     number(d, k, initial, 10)
 }
 
-// Word of a role: the first `length` of the bytes.
+// Word of a role, as the first `length` of the bytes.
 struct Word {
     bytes: [u8; 3],
     length: usize,
@@ -157,7 +157,7 @@ pub fn signal_line(d: &mut [u8], at: usize, role: Role, name: &[u8]) -> usize
     field(d, i, name, 10)
 }
 
-// A field for which there is room, with the byte that ends it.
+// Puts a field for which there is room, and the byte that ends it.
 fn field_within(d: &mut [u8], at: usize, s: &[u8], end: u8) -> usize
     requires { ⌜ at + length (now s) < length (now d) ⌝ }
     ensures { λ r. ⌜ r ≡ at + length (now (s .entry)) + 1 ⌝ }
@@ -169,7 +169,7 @@ fn field_within(d: &mut [u8], at: usize, s: &[u8], end: u8) -> usize
     i + 1
 }
 
-// The same for a number.
+// Puts a number for which there is room, as a field with the byte that ends it.
 fn number_within(d: &mut [u8], at: usize, n: usize, end: u8) -> usize
     requires { ⌜ at + 6 ≤ length (now d) ⌝ }
     ensures { λ r. ⌜ r ≡ at + length (decimal n) + 1 ⌝ }
@@ -181,7 +181,7 @@ fn number_within(d: &mut [u8], at: usize, n: usize, end: u8) -> usize
     i + 1
 }
 
-// The line of a step for which there is room.
+// Puts the line of a step for which there is room.
 fn step_within(d: &mut [u8], at: usize, from: usize, name: &[u8], to: usize) -> usize
     requires { ⌜ at + length (now name) + 18 ≤ length (now d) ⌝ }
     ensures { λ r. ⌜ r ≡ after (length (now (d .entry))) at (stepText from (now (name .entry)) to) ⌝ }
@@ -193,7 +193,7 @@ fn step_within(d: &mut [u8], at: usize, from: usize, name: &[u8], to: usize) -> 
     number_within(d, k, to, 10)
 }
 
-// Whether there is room from the place `at` on, in so many bytes, for the line of a step: its name and at most 18 others.
+// Tells whether a buffer of so many bytes has room, from the place `at` on, for the line of a step: its name and at most 18 other bytes.
 fn has_room(bytes: usize, at: usize, name: usize) -> bool
     ensures { λ r. ⌜ r ≡ leb (at + name + 18) bytes ⌝ }
 {

@@ -56,7 +56,7 @@ pub signals-next : (left : ℕ) (h : Automaton) (names : List (List ℕ)) → le
 unfolding signalLines signalRow
 signals-next left h names bound more s e role f name g left′ k = rw (those-lowest 32 left (omega arith) bound, f, g, e, k) (printed-append (_ ∷ []) _)
 
--- The end of the next line fits.
+-- The end of the next line fits a number of 64 bits.
 pub signals-room : (d₀ : List ℕ) (at₀ : ℕ) (whole d : List ℕ) (at left : ℕ) (h : Automaton) (names : List (List ℕ)) → Left d₀ at₀ whole d at (signalLines left h names)
     → at₀ + length whole < 2 ^ 64 → left < 2 ^ 32 → ¬ (left ≡ 0) → (s : ℕ) → s ≡ trailingZeros 32 left → (role : Role) → role ≡ roleOf h s
     → (name : List ℕ) → name ≡ nameOf names s → at + length (signalText role name) < 2 ^ 64
@@ -86,7 +86,7 @@ module _ (n state : ℕ) (cell : ℕ) where
 
 -- ---- steps
 
--- That a step's signal has an entry, in the form that code asks for: the cell is read at the row's first one, and the names are lent.
+-- A step's signal has an entry, in the form that code asks for: cells are counted from the row's first one, and names are lent.
 pub entry-lent : (n : ℕ) (cells : List ℕ) (names : List (RefT (List ℕ))) → Writable n cells (texts names)
     → (state first a : ℕ) → first ≡ state * 32 → state < n → a < 32 → getD cells (first + a) 0 < n → a < length names
 entry-lent n cells names w state first a e h k c =
@@ -127,7 +127,7 @@ module _ (n : ℕ) (cells : List ℕ) (names : List (List ℕ)) where
       go s true l = printed-append (stepRow t names state s ∷ []) (map (stepRow t names state) l)
       go s false l = refl
 
-  -- The same as code has it: the cell is read at the row's first one.
+  -- The lowest signal's line comes first, in the form that code has it: cells are counted from the row's first one.
   pub steps-next : (state first left s : ℕ) → first ≡ state * 32 → left < 2 ^ 32 → ¬ (left ≡ 0) → state < n → length cells ≡ n * 32 → s ≡ trailingZeros 32 left
       → (left′ : ℕ) → left′ ≡ left - 2 ^ trailingZeros 32 left
       → stateLines n cells names state left ≡ cellText n state (nameOf names s) (getD cells (first + s) 0) ++ stateLines n cells names state left′
@@ -185,7 +185,7 @@ module _ (n : ℕ) (cells : List ℕ) (names : List (List ℕ)) where
 
 -- ---- the text
 
--- Lines of at most 34 bytes.
+-- Lines of at most 34 bytes each.
 map-most : (f : ℕ → List (List ℕ)) (l : List ℕ) → ((x : ℕ) → In x l → length (printed (f x ∷ [])) ≤ 34) → length (printed (map f l)) ≤ 34 * length l
 unfolding printed
 map-most f [] h = omega arith

@@ -20,7 +20,7 @@ pub enum Printed {
     Refused(Refusal),
 }
 
-// All checks but 23, which the length of the text decides.
+// Runs all checks but 23, which the length of the text decides.
 fn check(a: Automaton, cells: &[u16], name: &[u8], names: &[&[u8]]) -> Checked
     ensures { λ r. ⌜ r ≡ first (checksBefore (table a (now (cells .entry))) (now (name .entry)) (texts (now (names .entry)))) ⌝ }
 {
@@ -31,7 +31,7 @@ fn check(a: Automaton, cells: &[u16], name: &[u8], names: &[&[u8]]) -> Checked
     names::check(a, name, names)
 }
 
-// Measures the text: the rows are put into a byte of no meaning.
+// Measures the text by putting it into a buffer of one byte: the place is counted on past its end.
 fn measure(a: Automaton, cells: &[u16], name: &[u8], names: &[&[u8]]) -> usize
     requires { ⌜ Valid (table a (now cells)) ⌝ }
     requires { ⌜ Named (declaredSet a) (texts (now names)) ⌝ }
