@@ -16,7 +16,7 @@ unfolding stored
 length-stored d at [] = refl
 length-stored d at (x ∷ s) = length-stored (set d at x) (suc at) s ∙ length-set d at x
 
-stored-append : (d : List ℕ) (at : ℕ) (s t : List ℕ) → stored d at (s ++ t) ≡ stored (stored d at s) (at + length s) t
+pub stored-append : (d : List ℕ) (at : ℕ) (s t : List ℕ) → stored d at (s ++ t) ≡ stored (stored d at s) (at + length s) t
 unfolding stored
 stored-append d at [] t = ap (λ (k : ℕ). stored d k t) (omega arith)
 stored-append d at (x ∷ s) t =
@@ -54,28 +54,6 @@ puts-none d at = (let z : at ≡ at + min 0 (suc (length d) - at) = omega arith 
 pub puts-then : (d : List ℕ) (at : ℕ) (s t : List ℕ) (r r′ : ℕ) (b b′ : List ℕ) → Puts d at s r b → Puts b r t r′ b′ → Puts d at (s ++ t) r′ b′
 puts-then d at s t r r′ b b′ (p, q) (p′, q′) =
     (p′ ∙ rw (q, length-stored d at s, p) (after-append (length d) at s t), q′ ∙ rw (q, p) (stored-after d at s t))
-
--- ---- a text put part by part: what is left of it, put after what stands there, gives the whole
-
-pub record Left (d₀ : List ℕ) (at₀ : ℕ) (whole d : List ℕ) (at : ℕ) (rest : List ℕ) : Type 0 where
-  pub size : length d ≡ length d₀
-  pub ends : after (length d) at rest ≡ after (length d₀) at₀ whole
-  pub text : stored d at rest ≡ stored d₀ at₀ whole
-
-pub left-all : (d : List ℕ) (at : ℕ) (whole rest : List ℕ) → whole ≡ rest → Left d at whole d at rest
-left-all d at whole rest e = record { size = refl; ends = ap (after (length d) at) (sym e); text = ap (stored d at) (sym e) }
-
-module _ (d₀ : List ℕ) (at₀ : ℕ) (whole d : List ℕ) (at : ℕ) (rest : List ℕ) (l : Left d₀ at₀ whole d at rest) where
-  pub left-next : (s t : List ℕ) (r : ℕ) (b : List ℕ) → rest ≡ s ++ t → Puts d at s r b → Left d₀ at₀ whole b r t
-  left-next s t r b e (p, q) = record {
-    size = ap length q ∙ length-stored d at s ∙ l .size;
-    ends = rw (q, length-stored d at s, p) (after-append (length d) at s t ∙ (rw e at (l .ends)));
-    text = rw (q, p) (stored-after d at s t ∙ (rw e at (l .text)));
-  }
-
-  pub left-none : rest ≡ [] → Puts d₀ at₀ whole at d
-  unfolding after stored
-  left-none e = (puts-none d at .0 ∙ (rw e at (l .ends)), rw e at (l .text))
 
 -- ---- `copy`
 
@@ -125,15 +103,15 @@ stored-sets d at (x ∷ s) = stored-sets (set d at x) (suc at) s
 stored-part : (d : List ℕ) (at : ℕ) (s : List ℕ) → at + length s ≤ length d → stored d at s ≡ take at d ++ s ++ drop (at + length s) d
 stored-part d at s h = stored-sets d at s ∙ sets-eq s d at h
 
--- A part that was lent comes back with s.
+-- A part of the buffer that was lent comes back with s.
 pub stored-lent : (d : List ℕ) (at e : ℕ) (s : List ℕ) → e ≡ at + length s → e ≤ length d → putMid at (e - at) d s ≡ stored d at s
 stored-lent d at e s f h = rw (post-is at e d (omega arith), f) (sym (append-assoc (take at d) s _) ∙ sym (stored-part d at s (omega arith)))
 
--- From the first place on.
+-- A text stored from the first place on.
 pub stored-front : (d s : List ℕ) → length s ≤ length d → stored d 0 s ≡ s ++ drop (length s) d
 stored-front d s h = let z : 0 + length s ≡ length s = omega arith in stored-part d 0 s (omega arith) ∙ rw z
 
--- With the byte that ends it.
+-- A text stored with the byte that ends it.
 pub stored-ended : (d b : List ℕ) (at : ℕ) (s : List ℕ) (i end : ℕ) → b ≡ stored d at s → i ≡ at + length s → set b i end ≡ stored d at (s ++ end ∷ [])
 unfolding stored
 stored-ended d b at s i end e f = rw (e, f) (sym (stored-append d at s (end ∷ [])))

@@ -22,7 +22,7 @@ more-digits : (k n : ℕ) → 10 ≤ n → digitsOf (suc k) n ≡ digitsOf k (n 
 unfolding digitsOf
 more-digits k n h = rw (le-ltb n 10 h)
 
--- ---- how many
+-- ---- how many digits there are
 
 one-long : (k n : ℕ) → n < 10 → length (digitsOf k n) ≡ 1
 one-long k n h = ap length (one-digit k n h)
@@ -133,7 +133,7 @@ module _ (n w : ℕ) (wide : w ≡ length (decimal n)) (ys : List ℕ) (is : ys 
   pub number-put : (zs : List ℕ) (r : ℕ) (b : List ℕ) → Puts d at (take (w - 0) (ys ++ zs) ++ end ∷ []) r b → Puts d at (decimal n ++ end ∷ []) r b
   number-put zs r b p = let z : w - 0 ≡ length (decimal n) = omega arith in rw (z, is, take-append-seam (decimal n) zs) at p
 
-  -- They stand in a part that was lent.
+  -- The digits stand in a part of the buffer that was lent.
   pub number-lent : at + w ≤ length d → set (putMid at (at + w - at) d ys) (at + w) end ≡ stored d at (decimal n ++ end ∷ [])
   number-lent h =
       stored-ended d (putMid at (at + w - at) d ys) at (decimal n) (at + w) end (rw is (stored-lent d at (at + w) (decimal n) (ap (λ (k : ℕ). at + k) wide) h)) (ap (λ (k : ℕ). at + k) wide)

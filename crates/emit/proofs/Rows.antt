@@ -1,13 +1,14 @@
 -- Lines made of their fields.
 use mathlib.Core.Path.{_≡_, sym, ap, _∙_}
-use mathlib.Core.Bool.{Bool, true, false}
+use mathlib.Core.Bool.{false}
 use mathlib.Core.List.{List, [], _∷_, _++_, append-assoc}
 use Prim.Native.Nat.{ℕ, _+_, _-_, _≤_, _<_}
 use native.Mathlib.Decide.{decLe}
 use native.Mathlib.Omega.{arith}
 use lib.Dec.{leb}
-use lib.ListN.{length, length-append}
+use lib.ListN.{length, take, length-append, length-take}
 use borrow.Author.Tests.{le-leb, lt-leb}
+use Rattle.text.specs.declared.Role.{Role}
 use Rattle.text.specs.declared.Role.the-variants.{Input, Output}
 use Rattle.text.specs.Lines.{tableWord, roleWord, stepWord}
 use Rattle.text.specs.Writing.{decimal, tabbed, printed}
@@ -16,13 +17,13 @@ use Rattle.emit.specs.Rows.{tableText, signalText, stepText}
 use Rattle.emit.proofs.Buffer.{Puts, puts-then, length-stored}
 use Rattle.emit.proofs.Decimal.{decimal-most}
 
--- A first field with its tab, then the others.
+-- A line is its first field with a tab, then a line of the others.
 line-cons : (f g : List ℕ) (fs : List (List ℕ)) → printed ((f ∷ g ∷ fs) ∷ []) ≡ (f ++ 9 ∷ []) ++ printed ((g ∷ fs) ∷ [])
 unfolding tabbed printed
 line-cons f g fs = append-assoc f (9 ∷ tabbed (g ∷ fs)) (10 ∷ []) ∙ sym (append-assoc f (9 ∷ []) (tabbed (g ∷ fs) ++ 10 ∷ []))
 
 module _ (d : List ℕ) (at : ℕ) where
-  -- A line of one field, of more.
+  -- A line of one field is put, and one of more.
   line-one : (f : List ℕ) (r : ℕ) (b : List ℕ) → Puts d at (f ++ 10 ∷ []) r b → Puts d at (printed ((f ∷ []) ∷ [])) r b
   unfolding tabbed printed
   line-one f r b p = p
@@ -41,12 +42,14 @@ pub line-four : (d : List ℕ) (at : ℕ) (f g h i : List ℕ) (r₁ r₂ r₃ r
 line-four d at f g h i r₁ r₂ r₃ r₄ b₁ b₂ b₃ b₄ p q v w =
     line-more d at f g (h ∷ i ∷ []) r₁ r₄ b₁ b₄ p (line-more b₁ r₁ g h (i ∷ []) r₂ r₄ b₂ b₄ q (line-two b₂ r₂ h i r₃ r₄ b₃ b₄ v w))
 
-module _ (d : List ℕ) (at : ℕ) (input : Bool) (name : List ℕ) (r r′ : ℕ) (b b′ : List ℕ) where
-  pub signal-in : input ≡ true → Puts d at (roleWord Input ++ 9 ∷ []) r b → Puts b r (name ++ 10 ∷ []) r′ b′ → Puts d at (signalText input name) r′ b′
-  signal-in e p q = rw e (line-two d at (roleWord Input) name r r′ b b′ p q)
+pub word-within : (role : Role) (n : ℕ) (word : List ℕ) → n ≡ length (roleWord role) → take n word ≡ roleWord role → n ≤ length word
+word-within role n word e f = omega (arith, e, ap length f, length-take n word)
 
-  pub signal-out : input ≡ false → Puts d at (roleWord Output ++ 9 ∷ []) r b → Puts b r (name ++ 10 ∷ []) r′ b′ → Puts d at (signalText input name) r′ b′
-  signal-out e p q = rw e (line-two d at (roleWord Output) name r r′ b b′ p q)
+-- The word of a role is put out of the bytes that it stands in.
+pub signal-put : (role : Role) (d : List ℕ) (at : ℕ) (name : List ℕ) (r r′ : ℕ) (b b′ word : List ℕ) (n : ℕ) → take n word ≡ roleWord role
+    → Puts d at (take (n - 0) word ++ 9 ∷ []) r b → Puts b r (name ++ 10 ∷ []) r′ b′ → Puts d at (signalText role name) r′ b′
+signal-put role d at name r r′ b b′ word n e p q =
+    let z : n - 0 ≡ n = omega arith in line-two d at (roleWord role) name r r′ b b′ (rw (z, e) at p) q
 
 -- ---- how long the lines are
 
@@ -67,11 +70,12 @@ table-long name states initial =
       line-end (decimal initial),
     )
 
-pub input-long : (input : Bool) (name : List ℕ) → input ≡ true → length name + 4 ≡ length (signalText input name)
-input-long input name e = rw e (omega (arith, line-size (roleWord Input) name [], line-end name))
+pub signal-long : (role : Role) (name : List ℕ) → length (roleWord role) + length name + 2 ≡ length (signalText role name)
+signal-long role name = omega (arith, line-size (roleWord role) name [], line-end name)
 
-pub output-long : (input : Bool) (name : List ℕ) → input ≡ false → length name + 5 ≡ length (signalText input name)
-output-long input name e = rw e (omega (arith, line-size (roleWord Output) name [], line-end name))
+pub word-most : (role : Role) → length (roleWord role) ≤ 3
+word-most Input = omega arith
+word-most Output = omega arith
 
 pub step-long : (from : ℕ) (name : List ℕ) (to : ℕ) → length name + length (decimal from) + length (decimal to) + 8 ≡ length (stepText from name to)
 step-long from name to =
@@ -98,7 +102,7 @@ module _ (bytes at name : ℕ) where
     | no g ↦ lt-leb name (bytes - at - 18) (omega arith) ∙ sym (lt-leb (at + name + 18) bytes (omega arith))
   ]
 
--- ---- its fields, where there is room
+-- ---- the fields of a step, where there is room
 
 -- A field and the byte that ends it were put into d, whole.
 abbrev Ended : List ℕ → ℕ → List ℕ → ℕ → ℕ → List ℕ → Type 0

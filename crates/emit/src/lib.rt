@@ -5,12 +5,14 @@ ghost use mathlib.Core.Path.{_≡_};
 ghost use mathlib.Core.List.{[], _∷_, _++_};
 ghost use Prim.Native.Nat.{_+_, _%_, _≤_, _<_};
 ghost use lib.Dec.{leb};
-ghost use lib.ListN.{length};
+ghost use lib.ListN.{length, take};
+ghost use Rattle.text.specs.Lines.{roleWord};
 ghost use Rattle.text.specs.Writing.{decimal};
 ghost use Rattle.emit.specs.Buffer.{after, stored};
 ghost use Rattle.emit.specs.Rows.{tableText, signalText, stepText};
+use text::Role;
 
-// The bytes of s, for which there is room.
+// Copies the bytes of s, for which there is room.
 fn copy(d: &mut [u8], at: usize, s: &[u8])
     requires { ⌜ at + length (now s) ≤ length (now d) ⌝ }
     ensures { λ _. ⌜ now (d .exit) ≡ stored (now (d .entry)) at (now (s .entry)) ⌝ }
@@ -47,7 +49,7 @@ pub fn field(d: &mut [u8], at: usize, s: &[u8], end: u8) -> usize
     put(d, i, &last)
 }
 
-// The last digit of a number.
+// Gives the last digit of a number, as a byte.
 fn digit(n: usize) -> u8
     ensures { λ r. ⌜ r ≡ 48 + n % 10 ⌝ }
 {
@@ -73,7 +75,7 @@ pub fn width(n: usize) -> usize
     5
 }
 
-// The digits of a number into as many bytes, last digit first.
+// Writes the digits of a number into as many bytes, last digit first.
 fn digits(d: &mut [u8], n: usize)
     requires { ⌜ length (now d) ≡ length (decimal n) ⌝ }
     ensures { λ _. ⌜ now (d .exit) ≡ decimal n ⌝ }
@@ -87,7 +89,7 @@ fn digits(d: &mut [u8], n: usize)
     }
 }
 
-// Puts a decimal number as a field, with the byte that ends it; of a number from 100,000 on only the last five digits.
+// Puts a decimal number as a field, and the byte that ends it. From 100,000 on a number keeps its last five digits only.
 pub fn number(d: &mut [u8], at: usize, n: usize, end: u8) -> usize
     ensures { λ r. ⌜ r ≡ after (length (now (d .entry))) at (decimal n ++ end ∷ []) ⌝ }
     ensures { λ r. ⌜ now (d .exit) ≡ stored (now (d .entry)) at (decimal n ++ end ∷ []) ⌝ }
@@ -109,20 +111,53 @@ pub fn table_line(d: &mut [u8], at: usize, name: &[u8], states: usize, initial: 
     number(d, k, initial, 10)
 }
 
-// Puts the line that declares a signal, as an input or as an output.
-pub fn signal_line(d: &mut [u8], at: usize, input: bool, name: &[u8]) -> usize
-    ensures { λ r. ⌜ r ≡ after (length (now (d .entry))) at (signalText input (now (name .entry))) ⌝ }
-    ensures { λ r. ⌜ now (d .exit) ≡ stored (now (d .entry)) at (signalText input (now (name .entry))) ⌝ }
+// Word of a role, as the first `length` of the bytes.
+struct Word {
+    bytes: [u8; 3],
+    length: usize,
+}
+
+// Gives the word of a role. A further role is one more case here, and nowhere else where lines are put.
+fn role_word(role: Role) -> Word
+    ensures { λ r. ⌜ r .length ≡ length (roleWord role) ⌝ }
+    ensures { λ r. ⌜ take (r .length) (r .bytes) ≡ roleWord role ⌝ }
 {
-    if input {
-        let i = field(d, at, b"in", 9);
-        return field(d, i, name, 10);
+    match role {
+        Role::Input => Word {
+            bytes: [b'i', b'n', 0],
+            length: 2,
+        },
+        Role::Output => Word {
+            bytes: [b'o', b'u', b't'],
+            length: 3,
+        },
     }
-    let i = field(d, at, b"out", 9);
+}
+
+// Counts the bytes of a role's word.
+pub fn role_width(role: Role) -> usize
+    ensures { λ r. ⌜ r ≡ length (roleWord role) ⌝ }
+{
+    let word = role_word(role);
+    word.length
+}
+
+// Puts the line that declares a signal in a role.
+pub fn signal_line(d: &mut [u8], at: usize, role: Role, name: &[u8]) -> usize
+    ensures { λ r. ⌜ r ≡ after (length (now (d .entry))) at (signalText role (now (name .entry))) ⌝ }
+    ensures { λ r. ⌜ now (d .exit) ≡ stored (now (d .entry)) at (signalText role (now (name .entry))) ⌝ }
+{
+    if d.len() < at {
+        return at;
+    }
+    let word = role_word(role);
+    let bytes = word.bytes;
+    let n = word.length;
+    let i = field(d, at, &bytes[0..n], 9);
     field(d, i, name, 10)
 }
 
-// A field for which there is room, with the byte that ends it.
+// Puts a field for which there is room, and the byte that ends it.
 fn field_within(d: &mut [u8], at: usize, s: &[u8], end: u8) -> usize
     requires { ⌜ at + length (now s) < length (now d) ⌝ }
     ensures { λ r. ⌜ r ≡ at + length (now (s .entry)) + 1 ⌝ }
@@ -134,7 +169,7 @@ fn field_within(d: &mut [u8], at: usize, s: &[u8], end: u8) -> usize
     i + 1
 }
 
-// The same for a number.
+// Puts a number for which there is room, as a field with the byte that ends it.
 fn number_within(d: &mut [u8], at: usize, n: usize, end: u8) -> usize
     requires { ⌜ at + 6 ≤ length (now d) ⌝ }
     ensures { λ r. ⌜ r ≡ at + length (decimal n) + 1 ⌝ }
@@ -146,7 +181,7 @@ fn number_within(d: &mut [u8], at: usize, n: usize, end: u8) -> usize
     i + 1
 }
 
-// The line of a step for which there is room.
+// Puts the line of a step for which there is room.
 fn step_within(d: &mut [u8], at: usize, from: usize, name: &[u8], to: usize) -> usize
     requires { ⌜ at + length (now name) + 18 ≤ length (now d) ⌝ }
     ensures { λ r. ⌜ r ≡ after (length (now (d .entry))) at (stepText from (now (name .entry)) to) ⌝ }
@@ -158,7 +193,7 @@ fn step_within(d: &mut [u8], at: usize, from: usize, name: &[u8], to: usize) -> 
     number_within(d, k, to, 10)
 }
 
-// Whether there is room from the place `at` on, in so many bytes, for the line of a step: its name and at most 18 others.
+// Tells whether a buffer of so many bytes has room, from the place `at` on, for the line of a step: its name and at most 18 other bytes.
 fn has_room(bytes: usize, at: usize, name: usize) -> bool
     ensures { λ r. ⌜ r ≡ leb (at + name + 18) bytes ⌝ }
 {
@@ -172,13 +207,16 @@ fn has_room(bytes: usize, at: usize, name: usize) -> bool
     name <= room - 18
 }
 
-// Puts the line of a step. Nearly all lines of a text are steps, so it asks for room once and not field by field.
+// Puts the line of a step. Nearly all lines of a text are steps, so it asks for room once and not field by field, and stops at once past the end.
 pub fn step_line(d: &mut [u8], at: usize, from: usize, name: &[u8], to: usize) -> usize
     ensures { λ r. ⌜ r ≡ after (length (now (d .entry))) at (stepText from (now (name .entry)) to) ⌝ }
     ensures { λ r. ⌜ now (d .exit) ≡ stored (now (d .entry)) at (stepText from (now (name .entry)) to) ⌝ }
 {
     if has_room(d.len(), at, name.len()) {
         return step_within(d, at, from, name, to);
+    }
+    if d.len() < at {
+        return at;
     }
     let i = field(d, at, b"step", 9);
     let j = number(d, i, from, 9);

@@ -14,9 +14,10 @@ use Rattle.text.specs.declared.Role.{Role}
 use Rattle.text.specs.declared.Role.the-variants.{Input, Output}
 use Rattle.text.specs.declared.Spelling.{Spelling}
 use Rattle.text.specs.Lines.{roleWord, byKind}
+use Rattle.text.specs.Roles.{hasRole, roleOf}
 use Rattle.text.specs.Reading.{Signal, Reading, next, indexOf, withRole, known, entered}
-use Rattle.text.specs.Writing.{those, signals, roleOf, nameOf, signalRow}
-use Rattle.text.proofs.Roles.{rolesAt, only, roles-here, roles-there}
+use Rattle.text.specs.Writing.{those, signals, nameOf, signalRow}
+use Rattle.text.proofs.Roles.{rolesAt, noRole, only, someRole, roles-here, roles-there}
 use Rattle.text.proofs.Entries.{declaring-next}
 use Rattle.text.proofs.Accepted.{with-states, with-initial}
 use Rattle.roundtrip.specs.RoundTrip.{place, different}
@@ -26,14 +27,18 @@ use Rattle.roundtrip.proofs.Put.{Put, put-blank, put-next, put-skip}
 use Rattle.roundtrip.proofs.Rows.{Writable, apart-names, signal-plain, signal-entry}
 
 -- The lists of a table at a declared signal are those of its role.
-role-only : (t : Table) (a : ℕ) → Valid t → T (declared t a) → rolesAt (t .header) a ≡ only (roleOf t a)
-role-only t a v d = go (member (t .header .inputs) a) (member (t .header .outputs) a) (v .disjoint .inputs a) d
+role-only : (t : Table) (a : ℕ) → Valid t → T (declared t a) → rolesAt (t .header) a ≡ only (roleOf (t .header) a)
+role-only t a v d = λ i r. at r i
   where
-    go : (x y : Bool) → (T x → ¬ T y) → T (x || y) → _≡_ {A = Bool × Bool} (x, y) (only (cond x Input Output))
+    go : (x y : Bool) → (T x → ¬ T y) → T (x || y) → (x ≡ only (cond x Input Output) Input) × (y ≡ only (cond x Input Output) Output)
     go true true f d = absurd (f tt tt)
-    go true false f d = refl
-    go false true f d = refl
+    go true false f d = (refl, refl)
+    go false true f d = (refl, refl)
     go false false f d = absurd d
+
+    at : (r : Role) → hasRole r (t .header) a ≡ only (roleOf (t .header) a) r
+    at Input = go (member (t .header .inputs) a) (member (t .header .outputs) a) (v .disjoint .inputs a) d .0
+    at Output = go (member (t .header .inputs) a) (member (t .header .outputs) a) (v .disjoint .inputs a) d .1
 
 -- The number of the signal a, where the names are numbered by their places in a list.
 abbrev pub numberIn : List (List ℕ) → List (List ℕ) → ℕ → ℕ
@@ -64,7 +69,7 @@ module _ (t : Table) (name : List ℕ) (names final : List (List ℕ)) (w : Writ
     pub cells : a .cells ≡ lent
     pub told : (x : ℕ) → T (declared t x) → Told c (nameOf names x) (namesIn (a .signals))
     pub all : different (namesIn (a .signals)) (map (nameOf names) (those (declared t) p (32 - p))) ≡ final
-    pub roles : Put (λ x. x) number (rolesAt (t .header)) (false, false) (λ x. T (declared t x)) p (rolesAt (a .header))
+    pub roles : Put (λ x. x) number (rolesAt (t .header)) noRole (λ x. T (declared t x)) p (rolesAt (a .header))
 
   -- The signals left from x on.
   those-from : (x : ℕ) → x < 32 → those (declared t) x (32 - x) ≡ cond (declared t x) (x ∷ those (declared t) (suc x) (32 - suc x)) (those (declared t) (suc x) (32 - suc x))
@@ -81,7 +86,7 @@ module _ (t : Table) (name : List ℕ) (names final : List (List ℕ)) (w : Writ
         here = rw is tt
 
         r : Role
-        r = roleOf t x
+        r = roleOf (t .header) x
 
         i : ℕ
         i = indexOf (nameOf names x) (a .signals)
@@ -99,8 +104,8 @@ module _ (t : Table) (name : List ℕ) (names final : List (List ℕ)) (w : Writ
         low : i < 32
         low = omega (arith, i-number, number-lt x here)
 
-        free : rolesAt (a .header) i ≡ (false, false)
-        free = rw (← i-number) (put-blank (λ x. x) number (rolesAt (t .header)) (false, false) (λ x. T (declared t x)) (u .roles) x here (omega arith))
+        free : rolesAt (a .header) i ≡ noRole
+        free = rw (← i-number) (put-blank (λ x. x) number (rolesAt (t .header)) noRole (λ x. T (declared t x)) (u .roles) x here (omega arith))
 
         signal : ℕ → Signal
         signal at = record { name = nameOf names x; text = text; from = at + length (roleWord r) + 1 }
@@ -111,7 +116,7 @@ module _ (t : Table) (name : List ℕ) (names final : List (List ℕ)) (w : Writ
         enter : (at : ℕ) → entered c text at a (byKind (a .place) (signalRow t names x)) ≡ next (after at)
         enter at =
             ap (λ p. entered c text at a (byKind p (signalRow t names x))) (u .stands) ∙ ap (entered c text at a) (signal-entry t name names w x here)
-            ∙ declaring-next c a r (signal at) i (λ d. subst (λ p. T (p .0 || p .1)) free d)
+            ∙ declaring-next c a r (signal at) i (λ d. subst (λ p. T (someRole p)) free d)
             (index-told c (nameOf names x) (a .signals) (u .told x here)) low
 
         next-one : (at : ℕ) → Declaring c lent (suc x) (after at)
@@ -124,7 +129,7 @@ module _ (t : Table) (name : List ℕ) (names final : List (List ℕ)) (w : Writ
               (told-with c (nameOf names y) (namesIn (a .signals)) (nameOf names x) (u .told y d) (λ e. ap (nameOf names) (w .apart c x y here d e)));
           all = ap (λ l. different l rest) (known-names (a .signals) (signal at)) ∙ all;
           roles =
-              put-next (λ x. x) number (rolesAt (t .header)) (false, false) (λ x. T (declared t x)) (u .roles) x here refl (λ y h e. number-apart y x h here e) (λ y h e. e)
+              put-next (λ x. x) number (rolesAt (t .header)) noRole (λ x. T (declared t x)) (u .roles) x here refl (λ y h e. number-apart y x h here e) (λ y h e. e)
               (rw i-number (roles-here r i (a .header) low free ∙ sym (role-only t x (w .valid) here)))
               (λ j d. roles-there r i (a .header) j low (λ e. d (e ∙ sym i-number)));
         }
@@ -138,7 +143,7 @@ module _ (t : Table) (name : List ℕ) (names final : List (List ℕ)) (w : Writ
       told = u .told;
       all = rw (those-from x h, fails) at (u .all);
       roles =
-          put-skip (λ x. x) number (rolesAt (t .header)) (false, false) (λ x. T (declared t x)) (u .roles)
+          put-skip (λ x. x) number (rolesAt (t .header)) noRole (λ x. T (declared t x)) (u .roles)
           (λ y d e. absurd (let z : T (declared t x) = subst (λ i. T (declared t i)) e d in (rw fails at z)));
     }
 

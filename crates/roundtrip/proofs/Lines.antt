@@ -16,7 +16,7 @@ use Rattle.text.proofs.Decimal.{decimal-digits}
 
 -- ---- lines that are cut into their fields again
 
--- A field, without tab and LF.
+-- A field has no tab and no LF.
 pub record Field (s : List ℕ) : Type 0 where
   pub tab : Free 9 s
   pub feed : Free 10 s
@@ -56,13 +56,13 @@ plain-cons f g fs h p = record {
 -- ---- lines that lead a reading on
 
 module _ (c : Spelling) (text : ℕ) where
-  -- From one reading to another, where the first line begins at the byte `at`.
+  -- Lines lead from one reading to another, where the first line begins at the byte `at`.
   pub data Runs : List (List (List ℕ)) → ℕ → Reading → Reading → Type 0 where
     done : {at : ℕ} {a : Reading} → Runs [] at a a
     goes : {l : List (List ℕ)} {ls : List (List (List ℕ))} {at : ℕ} {a m b : Reading} → Plain l → entered c text at a (byKind (a .place) l) ≡ next m
         → Runs ls (at + length (tabbed l) + 1) m b → Runs (l ∷ ls) at a b
 
-  -- To some reading with the property P.
+  -- Lines lead to some reading with the property P.
   pub record Reaches (ls : List (List (List ℕ))) (at : ℕ) (a : Reading) (P : Reading → Type 0) : Type 0 where
     pub end : Reading
     pub runs : Runs ls at a end

@@ -22,7 +22,7 @@ use Rattle.roundtrip.specs.RoundTrip.{rank, place, with, different}
 signal : List ℕ → Signal
 signal n = record { name = n; text = 0; from = 0 }
 
--- It is the number that the name has among signals.
+-- The place of a name is the number that it has among signals.
 place-index : (n : List ℕ) (l : List (List ℕ)) → place n l ≡ indexOf n (map signal l)
 unfolding signal firstMatch place
 place-index n [] = refl
@@ -51,7 +51,7 @@ place-name n (m ∷ l) h = go (same m n) refl (place-name n l) h
     go true e ih h = same-eq m n e
     go false e ih h = ih (omega arith)
 
--- Another one put behind does not give it one.
+-- Another name put behind the list gives a name no place.
 pub place-other : (n m : List ℕ) (l : List (List ℕ)) → ¬ (m ≡ n) → length l ≤ place n l → length (l ++ m ∷ []) ≤ place n (l ++ m ∷ [])
 unfolding place
 place-other n m [] d h = rw (same-not m n d) (omega arith)
@@ -109,7 +109,7 @@ pub number-first : (n : List ℕ) (l ns : List (List ℕ)) → place n (differen
 unfolding different
 number-first n l ns = begins-place (different-begins (with l n) ns) n (with-within n l) .0 ∙ with-place n l
 
--- Each of the names has one.
+-- Each of the names has a number.
 pub number-within : (nm : ℕ → List ℕ) (a : ℕ) (ds : List ℕ) (l : List (List ℕ)) → In a ds → place (nm a) (different l (map nm ds)) < length (different l (map nm ds))
 unfolding different
 number-within nm a [] l i = absurd i

@@ -30,7 +30,7 @@ module _ {K A : Type 0} (turn at : K → ℕ) (value : K → A) (blank : A) (Goo
     pub put-value : (x : K) → Good x → turn x < p → f (at x) ≡ value x
     put-value x g h = w .seen x g ∙ rw (lt-ltb (turn x) p h)
 
-    -- The turn of one without a value.
+    -- After the turn of one without a value f is the same.
     pub put-skip : ((x : K) → Good x → turn x ≡ p → value x ≡ blank) → Put (suc p) f
     put-skip none = record {
       seen = λ x g. elim (ℕ-discrete (turn x) p) [
@@ -40,7 +40,7 @@ module _ {K A : Type 0} (turn at : K → ℕ) (value : K → A) (blank : A) (Goo
       others = w .others;
     }
 
-    -- The turn of x.
+    -- After the turn of x its value stands at its place.
     pub put-next : {f′ : ℕ → A} (x : K) → Good x → turn x ≡ p → ((y : K) → Good y → at y ≡ at x → y ≡ x) → ((y : K) → Good y → turn y ≡ p → y ≡ x)
         → f′ (at x) ≡ value x → ((i : ℕ) → ¬ (i ≡ at x) → f′ i ≡ f i) → Put (suc p) f′
     put-next {f′} x g e apart only here there = record {

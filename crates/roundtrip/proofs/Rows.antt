@@ -24,7 +24,8 @@ use Rattle.text.specs.declared.Spelling.{Spelling}
 use Rattle.text.specs.declared.Spelling.the-variants.{Exact, Folded}
 use Rattle.text.specs.Fields.{upto, matches, nameOk, numberOk, value}
 use Rattle.text.specs.Lines.{table, declaration, step, tableWord, roleWord, stepWord, takesStep, byKind, tableLine, declarationLine, stepLine}
-use Rattle.text.specs.Writing.{decimal, roleOf, nameOf, tableRow, signalRow, stepRow, textLength, ambiguous, writerChecks}
+use Rattle.text.specs.Roles.{roleOf}
+use Rattle.text.specs.Writing.{decimal, nameOf, tableRow, signalRow, stepRow, textLength, ambiguous, writerChecks}
 use Rattle.text.proofs.Decimal.{decimal-ok, decimal-value}
 use Rattle.text.proofs.Names.{match-self, match-sym}
 use Rattle.roundtrip.proofs.Lines.{Field, name-field, number-field, Plain, plain-last, plain-cons}
@@ -115,11 +116,11 @@ module _ (t : Table) (name : List ℕ) (names : List (List ℕ)) (w : Writable t
   module _ (a : ℕ) (d : T (declared t a)) where
     pub signal-plain : Plain (signalRow t names a)
     unfolding signalRow
-    signal-plain = plain-cons _ _ _ (role-field (roleOf t a)) (plain-last _ (name-field (nameOf names a) (w .named a d)))
+    signal-plain = plain-cons _ _ _ (role-field (roleOf (t .header) a)) (plain-last _ (name-field (nameOf names a) (w .named a d)))
 
-    pub signal-entry : byKind Declarations (signalRow t names a) ≡ declaration (roleOf t a) (nameOf names a)
+    pub signal-entry : byKind Declarations (signalRow t names a) ≡ declaration (roleOf (t .header) a) (nameOf names a)
     unfolding signalRow
-    signal-entry = kind-declaration (roleOf t a) (nameOf names a) (w .named a d)
+    signal-entry = kind-declaration (roleOf (t .header) a) (nameOf names a) (w .named a d)
 
     module _ (s : ℕ) (h : s < t .header .states) (k : cellAt t s a < t .header .states) where
       from-small : s ≤ 65535

@@ -1,7 +1,7 @@
 -- A reading that copies a table is the same table, name for name.
 use mathlib.Core.Path.{_≡_, sym, ap, subst, _∙_}
 use mathlib.Core.Logic.{inl, inr}
-use mathlib.Core.Bool.{Bool, false, _&&_, _||_}
+use mathlib.Core.Bool.{Bool, _&&_}
 use mathlib.Core.List.{List, []}
 use Prim.Native.Nat.{ℕ, _+_, _*_, _<_}
 use native.Mathlib.Omega.{arith}
@@ -10,16 +10,17 @@ use lib.Dec.{T, eqb, T-not, eqb→eq, eqb-refl}
 use lib.ListN.{getD, List·getD-map}
 use lib.Seq.{getD-take}
 use Rattle.theory.specs.Bounded.{any}
-use Rattle.theory.specs.Table.{Table, member, cellAt}
+use Rattle.theory.specs.Table.{Table, cellAt}
 use Rattle.theory.specs.Checks.{declared}
 use Rattle.theory.specs.Valid.{Valid}
 use Rattle.theory.proofs.Tests.{and-left, and-right, and-both, test}
 use Rattle.theory.proofs.Bounded.{any-at, at-any}
 use Rattle.theory.proofs.Table.{table-narrow}
+use Rattle.text.specs.Roles.{hasRole}
 use Rattle.text.specs.Reading.{Signal, Reading, tableRead}
 use Rattle.text.specs.Writing.{signals, nameOf}
 use Rattle.text.specs.Lookup.{nobody, declares}
-use Rattle.text.proofs.Roles.{rolesAt}
+use Rattle.text.proofs.Roles.{rolesAt, noRole, someRole}
 use Rattle.roundtrip.specs.RoundTrip.{ReadAgain}
 use Rattle.roundtrip.proofs.Names.{place-name}
 use Rattle.roundtrip.proofs.Declarations.{numberIn, Numbered}
@@ -27,7 +28,7 @@ use Rattle.roundtrip.proofs.Trip.{Copy}
 
 module _ (t : Table) (names final : List (List ℕ)) (n : Numbered t names final) (st : Reading) (c : Copy t names final st) where
   pub copy-declares : (a : ℕ) → T (declared t a) → T (declares st (numberIn names final a))
-  copy-declares a d = subst (λ p. T (p .0 || p .1)) (sym (c .roles a d)) d
+  copy-declares a d = subst (λ p. T (someRole p)) (sym (c .roles a d)) d
 
   pub copy-name : (a : ℕ) → T (declared t a) → getD (st .signals) (numberIn names final a) nobody .name ≡ nameOf names a
   copy-name a d =
@@ -41,9 +42,9 @@ module _ (t : Table) (names final : List (List ℕ)) (n : Numbered t names final
         let (a, _, e) = any-at 32 f u in
         (a, and-left (declared t a) _ e, eqb→eq (numberIn names final a) b (and-right (declared t a) _ e))
     | inr u ↦
-        let none : rolesAt (st .header) b ≡ (false, false) = c .others b (λ a h e. T-not (any 32 f) u
+        let none : rolesAt (st .header) b ≡ noRole = c .others b (λ a h e. T-not (any 32 f) u
         (at-any 32 f a (table-narrow t a h) (and-both (declared t a) (eqb (numberIn names final a) b) h (rw e (eqb-refl b))))) in
-        absurd (subst (λ p. T (p .0 || p .1)) none d)
+        absurd (subst (λ p. T (someRole p)) none d)
   ]
     where
       f : ℕ → Bool
@@ -60,8 +61,7 @@ module _ (t : Table) (names final : List (List ℕ)) (n : Numbered t names final
       states = c .states;
       initial = c .initial;
       name = λ a d. found a d .0;
-      inputs = λ a d. ap (member (st .header .inputs)) (e a d) ∙ ap (λ p. p .0) (c .roles a d);
-      outputs = λ a d. ap (member (st .header .outputs)) (e a d) ∙ ap (λ p. p .1) (c .roles a d);
+      roles = λ r a d. ap (hasRole r (st .header)) (e a d) ∙ ap (λ p. p r) (c .roles a d);
       only = λ b d. let (a, h, f) = copy-only b d in (a, h, e a h ∙ f);
       steps = λ s a h d.
           ap (cellAt (tableRead st) s) (e a d) ∙ copy-cell s (numberIn names final a) h (omega (arith, n .within a d, n .few)) ∙ c .cells (s, a) (h, d);

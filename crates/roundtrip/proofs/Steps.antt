@@ -39,18 +39,18 @@ Move = ℕ × ℕ
 abbrev pub cellIn : List (List ℕ) → List (List ℕ) → Move → ℕ
 cellIn names final k = k .0 * 32 + numberIn names final (k .1)
 
--- Its turn among the steps written: the index of its cell in the table.
+-- The turn of a step among those written: the index of its cell in the table.
 abbrev pub turn : Move → ℕ
 turn k = k .0 * 32 + k .1
 
--- What the cell holds in the table.
+-- What the cell of a step holds in the table.
 abbrev pub cellOf : Table → Move → ℕ
 cellOf t k = cellAt t (k .0) (k .1)
 
 abbrev pub Good : Table → Move → Type 0
 Good t k = (k .0 < t .header .states) × T (declared t (k .1))
 
--- ---- reading them
+-- ---- reading the steps
 
 module _ (t : Table) (name : List ℕ) (names final : List (List ℕ)) (w : Writable t name names) (n : Numbered t names final) where
   abbrev states : ℕ

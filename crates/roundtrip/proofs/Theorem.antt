@@ -55,7 +55,7 @@ module _ (t : Table) (name : List ℕ) (names : List (List ℕ)) (w : Writable t
         let few : length (different [] (namesOf t names)) ≤ 32 = rw all-new signals-few in
         rw all-new at (trip-from c t name names w [] (λ a d. tt) 1 cells fits few)
 
-    -- Looking a number up.
+    -- Looking up a declared number gives its signal's name.
     found-alone : (a : ℕ) → T (declared t a)
         → (lookupAlone c (wholeText t name names) (rank a (signals t)) .name ≡ nameOf names a)
         × (lookupNumberAlone c (wholeText t name names) (rank a (signals t)) ≡ 0)
@@ -85,13 +85,13 @@ pub round-trip : (c : Spelling) (t : Table) (name : List ℕ) (names : List (Lis
     → (cells : ℕ) → t .header .states * 32 ≤ cells → RoundTrip c t names cells (wholeText t name names)
 round-trip c t name names room e cells fits = trip t name names (writable t name names room e) c cells fits
 
--- By the writer's contract: what it leaves in the lent bytes.
+-- What the writer leaves in the lent bytes, by its contract, is read back.
 pub written-trip : (c : Spelling) (t : Table) (name : List ℕ) (names : List (List ℕ)) (bytes : List ℕ)
     → first (writerChecks t name names (length bytes)) ≡ Accepted → (cells : ℕ) → t .header .states * 32 ≤ cells
     → RoundTrip c t names cells (take (textLength t name names) (writerBytes t name names bytes))
 written-trip c t name names bytes e cells fits = rw (written-text t name names bytes e _ refl) (round-trip c t name names (length bytes) e cells fits)
 
--- ---- a module's and a plan's text together
+-- ---- a component's and a specification's text together
 
 module _ (c : Spelling) (m : Table) (name : List ℕ) (names : List (List ℕ)) (w : Writable m name names)
     (p : Table) (name′ : List ℕ) (names′ : List (List ℕ)) (w′ : Writable p name′ names′) (few : length (allNames m names p names′) ≤ 32)
@@ -108,13 +108,13 @@ module _ (c : Spelling) (m : Table) (name : List ℕ) (names : List (List ℕ)) 
   second-numbered : Numbered p names′ all
   second-numbered = record { within = λ b d. number-within (nameOf names′) b (signals p) (namesOf m names) (declared-in p b d); few = few }
 
-  -- The module's names keep their places among all.
+  -- The component's names keep their places among all.
   first-place : (a : ℕ) → T (declared m a) → (numberIn names all a ≡ rank a (signals m)) × (numberIn names all a < length all)
   first-place a d =
       let (e, l) = begins-place (different-begins (namesOf m names) (namesOf p names′)) (nameOf names a) (alone-numbered m name names w .within a d) in
       (e ∙ sym (rank-number m name names w a d), l)
 
-  -- A name of the plan is told from the module's.
+  -- A name of the specification is told from the component's.
   told-first : (b : ℕ) → T (declared p b) → Told c (nameOf names′ b) (namesOf m names)
   told-first b d = told-map c (nameOf names′ b) (nameOf names) (signals m) (λ a i. unlike a b (in-declared m a i) d)
 
@@ -208,7 +208,7 @@ exact-no-clash m names p names′ a b h k e = same-eq (nameOf names a) (nameOf n
 module _ (m : Table) (name : List ℕ) (names : List (List ℕ)) (p : Table) (name′ : List ℕ) (names′ : List (List ℕ))
     (few : length (allNames m names p names′) ≤ 32) (cells cells′ : ℕ) (fits : m .header .states * 32 ≤ cells) (fits′ : p .header .states * 32 ≤ cells′) where
   module _ (room room′ : ℕ) (e : first (writerChecks m name names room) ≡ Accepted) (e′ : first (writerChecks p name′ names′ room′) ≡ Accepted) where
-    -- What the writer takes of a module and of a plan, with at most 32 different names in all, is read back together if no name of one clashes with a name of
+    -- What the writer takes of a component and of a specification, with at most 32 different names in all, is read back together if no name of one clashes with a name of
     -- the other.
     pub joint-trip : (c : Spelling) → NoClashBetween c m names p names′ → JointTrip c m names p names′ cells cells′ (wholeText m name names) (wholeText p name′ names′)
     joint-trip c unlike =
@@ -218,7 +218,7 @@ module _ (m : Table) (name : List ℕ) (names : List (List ℕ)) (p : Table) (na
     pub archive-joint-trip : JointTrip Exact m names p names′ cells cells′ (wholeText m name names) (wholeText p name′ names′)
     archive-joint-trip = joint-trip Exact (exact-no-clash m names p names′)
 
-  -- By the writer's contract: what it leaves in the lent bytes.
+  -- What the writer leaves in the lent bytes, by its contract, is read back.
   module _ (bytes bytes′ : List ℕ) (e : first (writerChecks m name names (length bytes)) ≡ Accepted)
       (e′ : first (writerChecks p name′ names′ (length bytes′)) ≡ Accepted) where
     abbrev written : List ℕ

@@ -1,6 +1,6 @@
 -- What is written is read back, after any signals that are numbered already.
 use mathlib.Core.Path.{_≡_, refl, sym, ap, subst, _∙_}
-use mathlib.Core.Bool.{false, _||_}
+use mathlib.Core.Bool.{false}
 use mathlib.Core.List.{List, [], _∷_, _++_, map}
 use Prim.Native.Nat.{ℕ, _+_, _*_, _≤_}
 use native.Mathlib.Omega.{arith}
@@ -19,7 +19,7 @@ use Rattle.text.specs.Lines.{byKind}
 use Rattle.text.specs.Reading.{Signal, Reading, next, entered, finished, isNil, readLines, fresh, readFrom}
 use Rattle.text.specs.Writing.{signals, nameOf, tabbed, printed, tableRow, signalRow, stepRows, wholeText, textLength, those}
 use Rattle.text.proofs.Ascending.{In, in-those, those-in}
-use Rattle.text.proofs.Roles.{rolesAt, member-none}
+use Rattle.text.proofs.Roles.{rolesAt, noRole, someRole, empty-lists}
 use Rattle.text.proofs.Entries.{started-next}
 use Rattle.roundtrip.specs.RoundTrip.{different, namesOf}
 use Rattle.roundtrip.proofs.Names.{Told, number-within, Distinct, namesIn}
@@ -50,7 +50,7 @@ pub record Copy (t : Table) (names final : List (List ℕ)) (st : Reading) : Typ
   pub initial : st .header .initial ≡ t .header .initial
   pub listed : namesIn (st .signals) ≡ final
   pub roles : (a : ℕ) → T (declared t a) → rolesAt (st .header) (numberIn names final a) ≡ rolesAt (t .header) a
-  pub others : (i : ℕ) → ((a : ℕ) → T (declared t a) → ¬ (numberIn names final a ≡ i)) → rolesAt (st .header) i ≡ (false, false)
+  pub others : (i : ℕ) → ((a : ℕ) → T (declared t a) → ¬ (numberIn names final a ≡ i)) → rolesAt (st .header) i ≡ noRole
   pub cells : (k : Move) → Good t k → getD (st .cells) (cellIn names final k) 65535 ≡ cellOf t k
   pub blank : (i : ℕ) → ((k : Move) → Good t k → ¬ (cellIn names final k ≡ i)) → getD (st .cells) i 65535 ≡ 65535
 
@@ -88,7 +88,7 @@ module _ (c : Spelling) (t : Table) (name : List ℕ) (names : List (List ℕ)) 
     cells = refl;
     told = told;
     all = refl;
-    roles = put-nothing (λ x. x) (numberIn names final) (rolesAt (t .header)) (false, false) (λ x. T (declared t x)) (λ i. rw (member-none i));
+    roles = put-nothing (λ x. x) (numberIn names final) (rolesAt (t .header)) noRole (λ x. T (declared t x)) (empty-lists (t .header));
   }
 
   steps-copy : (a : Reading) → Declaring t name names final w numbered c (replicate room 65535) 32 a → (at : ℕ)
@@ -96,9 +96,9 @@ module _ (c : Spelling) (t : Table) (name : List ℕ) (names : List (List ℕ)) 
   unfolding different those
   steps-copy a u at =
       let roles : (x : ℕ) → T (declared t x) → rolesAt (a .header) (numberIn names final x) ≡ rolesAt (t .header) x =
-      λ x d. put-value (λ x. x) (numberIn names final) (rolesAt (t .header)) (false, false) (λ x. T (declared t x)) (u .roles) x d (table-narrow t x d) in
+      λ x d. put-value (λ x. x) (numberIn names final) (rolesAt (t .header)) noRole (λ x. T (declared t x)) (u .roles) x d (table-narrow t x d) in
       let known : (x : ℕ) → T (declared t x) → T (declared (tableOf (a .header) []) (numberIn names final x)) =
-      λ x d. subst (λ p. T (p .0 || p .1)) (sym (roles x d)) d in
+      λ x d. subst (λ p. T (someRole p)) (sym (roles x d)) d in
       reaches-map c text (λ b v. record {
         states = ap (λ h. h .states) (v .header) ∙ u .states;
         initial = ap (λ h. h .initial) (v .header) ∙ u .initial;

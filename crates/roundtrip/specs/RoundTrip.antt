@@ -6,11 +6,13 @@ use mathlib.Core.List.{List, [], _∷_, _++_, map}
 use Prim.Native.Nat.{ℕ, suc, _<_}
 use lib.Dec.{T, eqb, ltb}
 use lib.ListN.{length}
-use Rattle.theory.specs.Table.{Table, member, cellAt}
+use Rattle.theory.specs.Table.{Table, cellAt}
 use Rattle.theory.specs.Checks.{declared}
 use Rattle.theory.specs.Valid.{Valid}
+use Rattle.text.specs.declared.Role.{Role}
 use Rattle.text.specs.declared.Spelling.{Spelling}
 use Rattle.text.specs.Fields.{matches, same}
+use Rattle.text.specs.Roles.{hasRole}
 use Rattle.text.specs.Reading.{Signal, Reading, finished, readAlone, both, readBoth, tableRead}
 use Rattle.text.specs.Writing.{signals, nameOf}
 use Rattle.text.specs.Lookup.{lookup, lookupNumber, lookupAlone, lookupNumberAlone}
@@ -20,8 +22,7 @@ pub record SameByName (t : Table) (names : ℕ → List ℕ) (u : Table) (names�
   pub states : u .header .states ≡ t .header .states
   pub initial : u .header .initial ≡ t .header .initial
   pub name : (a : ℕ) → T (declared t a) → names′ (number a) ≡ names a
-  pub inputs : (a : ℕ) → T (declared t a) → member (u .header .inputs) (number a) ≡ member (t .header .inputs) a
-  pub outputs : (a : ℕ) → T (declared t a) → member (u .header .outputs) (number a) ≡ member (t .header .outputs) a
+  pub roles : (r : Role) (a : ℕ) → T (declared t a) → hasRole r (u .header) (number a) ≡ hasRole r (t .header) a
   pub only : (b : ℕ) → T (declared u b) → (a : ℕ) × T (declared t a) × (number a ≡ b)
   pub steps : (s a : ℕ) → s < t .header .states → T (declared t a) → cellAt u s (number a) ≡ cellAt t s a
   pub no-others : (s b : ℕ) → s < t .header .states → b < 32 → ¬ T (declared u b) → cellAt u s b ≡ 65535
@@ -34,7 +35,7 @@ pub record ReadAgain (t : Table) (names : List (List ℕ)) (st : Reading) (find 
 
 -- ---- a text alone
 
--- The place of a in a list.
+-- The place of the number a in a list.
 unfoldable pub rank : ℕ → List ℕ → ℕ
 rank a [] = 0
 rank a (b ∷ l) = cond (eqb b a) 0 (suc (rank a l))
@@ -43,13 +44,13 @@ rank a (b ∷ l) = cond (eqb b a) 0 (suc (rank a l))
 abbrev pub rankOf : Table → ℕ → ℕ
 rankOf t a = rank a (signals t)
 
--- The text, read in a spelling with so many cells lent.
+-- The text of the table t is read again, in a spelling and with so many cells lent.
 pub record RoundTrip (c : Spelling) (t : Table) (names : List (List ℕ)) (cells : ℕ) (text : List ℕ) : Type 0 where
   pub reading : Reading
   pub read : readAlone c cells text ≡ finished reading
   pub again : ReadAgain t names reading (lookupAlone c text) (lookupNumberAlone c text) (rankOf t)
 
--- ---- a module's and a plan's text together: signals are numbered as first declared, module first
+-- ---- a component's and a specification's text together: signals are numbered as first declared, the component's first
 
 -- The names of the declared signals.
 abbrev pub namesOf : Table → List (List ℕ) → List (List ℕ)
@@ -64,26 +65,26 @@ place n (m ∷ l) = cond (same m n) 0 (suc (place n l))
 abbrev pub with : List (List ℕ) → List ℕ → List (List ℕ)
 with l n = cond (ltb (place n l) (length l)) l (l ++ n ∷ [])
 
--- With the new ones of some names, as they come.
+-- A list with the new ones of some names behind it, as they come.
 unfoldable pub different : List (List ℕ) → List (List ℕ) → List (List ℕ)
 different l [] = l
 different l (n ∷ ns) = different (with l n) ns
 
--- The different names of the module m and the plan p.
+-- The different names of the component m and the specification p (01's module and plan).
 abbrev pub allNames : Table → List (List ℕ) → Table → List (List ℕ) → List (List ℕ)
 allNames m names p names′ = different (namesOf m names) (namesOf p names′)
 
--- The number of the plan's signal b is the place of its name among them.
+-- The number of the specification's signal b is the place of its name among all different names.
 abbrev pub numberAmong : Table → List (List ℕ) → Table → List (List ℕ) → ℕ → ℕ
 numberAmong m names p names′ b = place (nameOf names′ b) (allNames m names p names′)
 
--- No name of the module m clashes with one of the plan p (02, S-9): those that match in the spelling are equal. It is asked where the spelling is Folded, since
+-- No name of the component m clashes with one of the specification p (02, S-9): those that match in the spelling are equal. It is asked where the spelling is Folded, since
 -- two texts that were each written may clash with each other; where it is Exact it holds of all names (proofs/Theorem.antt: `exact-no-clash`).
 abbrev pub NoClashBetween : Spelling → Table → List (List ℕ) → Table → List (List ℕ) → Type 0
 NoClashBetween c m names p names′ =
     (a b : ℕ) → T (declared m a) → T (declared p b) → matches c (nameOf names a) (nameOf names′ b) ≡ true → nameOf names a ≡ nameOf names′ b
 
--- The two texts, read together in a spelling: the module's signals are numbered as alone, and a number is shared exactly for a shared name.
+-- The two texts are read together again, in a spelling: the component's signals are numbered as alone, and a number is shared exactly for a shared name.
 pub record JointTrip (c : Spelling) (m : Table) (names : List (List ℕ)) (p : Table) (names′ : List (List ℕ)) (cells cells′ : ℕ) (text text′ : List ℕ) : Type 0 where
   pub first : Reading
   pub second : Reading

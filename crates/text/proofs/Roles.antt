@@ -1,6 +1,6 @@
 -- A table's lists after a declaration.
-use mathlib.Core.Path.{_≡_, refl, ap, _∙_}
-use mathlib.Core.Bool.{Bool, true, false, _||_, and-false, or-false, or-true}
+use mathlib.Core.Path.{_≡_, refl, sym, ap, subst, _∙_}
+use mathlib.Core.Bool.{Bool, true, false, _&&_, _||_, and-true, and-false, or-false}
 use Prim.Native.Nat.{ℕ, _^_, _<_}
 use native.Mathlib.Decide.{ℕ-discrete}
 use lib.Bits.{bitOr, or-lt}
@@ -10,13 +10,14 @@ use lib.Dec.{T, eqb, ltb, eqb→eq}
 use lib.Pow.{pow-lt}
 use borrow.Author.Tests.{eq-eqb, ne-eqb, lt-ltb}
 use Rattle.theory.specs.declared.Automaton.{Automaton}
-use Rattle.theory.specs.Table.{table, member}
+use Rattle.theory.specs.Table.{withLists, table, member}
 use Rattle.theory.specs.Checks.{declared}
 use Rattle.theory.proofs.Sets.{member-or}
-use Rattle.theory.proofs.Tests.{or-cases, or-left, or-right}
+use Rattle.theory.proofs.Tests.{is-false, or-cases, or-left, or-right}
 use Rattle.sets.proofs.Members.{has-none, has-power}
 use Rattle.text.specs.declared.Role.{Role}
 use Rattle.text.specs.declared.Role.the-variants.{Input, Output}
+use Rattle.text.specs.Roles.{hasRole}
 use Rattle.text.specs.Reading.{withRole}
 
 pub member-none : (a : ℕ) → member 0 a ≡ false
@@ -28,26 +29,62 @@ member-with s a b h = member-or s (2 ^ a) b ∙ ap (λ x. member s b || x) (elim
   | no d ↦ rw (has-power a b, ne-eqb b a d) (and-false (ltb b 32))
 ])
 
--- ---- a signal's membership of both lists
+-- ---- the roles of a signal: for each role, whether its list has it
 
-abbrev pub rolesAt : Automaton → ℕ → Bool × Bool
-rolesAt h b = (member (h .inputs) b, member (h .outputs) b)
+abbrev pub rolesAt : Automaton → ℕ → Role → Bool
+rolesAt h a = λ r. hasRole r h a
 
-abbrev pub only : Role → Bool × Bool
-only Input = (true, false)
-only Output = (false, true)
+abbrev pub noRole : Role → Bool
+noRole = λ r. false
 
-pub roles-here : (r : Role) (a : ℕ) (h : Automaton) → a < 32 → rolesAt h a ≡ (false, false) → rolesAt (withRole r a h) a ≡ only r
-roles-here Input a h l e =
-    let f : member (h .outputs) a ≡ false = ap (λ p. p .1) e in
-    rw (member-with (h .inputs) a a l, eq-eqb a a refl, or-true (member (h .inputs) a), f)
-roles-here Output a h l e =
-    let f : member (h .inputs) a ≡ false = ap (λ p. p .0) e in
-    rw (member-with (h .outputs) a a l, eq-eqb a a refl, or-true (member (h .outputs) a), f)
+abbrev pub only : Role → Role → Bool
+only Input Input = true
+only Input Output = false
+only Output Input = false
+only Output Output = true
+
+-- Some list has it: so `declared` says.
+abbrev pub someRole : (Role → Bool) → Bool
+someRole roles = roles Input || roles Output
+
+pub only-some : (r : Role) {roles : Role → Bool} → roles ≡ only r → T (someRole roles)
+only-some Input e = subst (λ p. T (someRole p)) (sym e) tt
+only-some Output e = subst (λ p. T (someRole p)) (sym e) tt
+
+pub undeclared : (h : Automaton) (a : ℕ) → ¬ T (declared (table h []) a) → rolesAt h a ≡ noRole
+undeclared h a n = λ i r. blank r i
+  where
+    blank : (r : Role) → hasRole r h a ≡ false
+    blank Input = is-false (member (h .inputs) a) (λ t. n (or-left (member (h .inputs) a) (member (h .outputs) a) t))
+    blank Output = is-false (member (h .outputs) a) (λ t. n (or-right (member (h .inputs) a) (member (h .outputs) a) t))
+
+pub empty-lists : (h : Automaton) (a : ℕ) → rolesAt (withLists h 0 0) a ≡ noRole
+empty-lists h a = λ i r. blank r i
+  where
+    blank : (r : Role) → hasRole r (withLists h 0 0) a ≡ false
+    blank Input = member-none a
+    blank Output = member-none a
+
+-- After a declaration the list of its role has the signal too, and the other lists are the same.
+listed-with : (r s : Role) (a : ℕ) (h : Automaton) (b : ℕ) → a < 32 → hasRole s (withRole r a h) b ≡ (hasRole s h b || (only r s && eqb b a))
+listed-with Input Input a h b l = member-with (h .inputs) a b l
+listed-with Input Output a h b l = sym (or-false (member (h .outputs) b))
+listed-with Output Input a h b l = sym (or-false (member (h .inputs) b))
+listed-with Output Output a h b l = member-with (h .outputs) a b l
+
+pub roles-here : (r : Role) (a : ℕ) (h : Automaton) → a < 32 → rolesAt h a ≡ noRole → rolesAt (withRole r a h) a ≡ only r
+roles-here r a h l e = λ i s. here s i
+  where
+    here : (s : Role) → hasRole s (withRole r a h) a ≡ only r s
+    here s =
+        let f : hasRole s h a ≡ false = ap (λ p. p s) e in
+        listed-with r s a h a l ∙ rw (f, eq-eqb a a refl) (and-true (only r s))
 
 pub roles-there : (r : Role) (a : ℕ) (h : Automaton) (b : ℕ) → a < 32 → ¬ (b ≡ a) → rolesAt (withRole r a h) b ≡ rolesAt h b
-roles-there Input a h b l d = rw (member-with (h .inputs) a b l, ne-eqb b a d, or-false (member (h .inputs) b))
-roles-there Output a h b l d = rw (member-with (h .outputs) a b l, ne-eqb b a d, or-false (member (h .outputs) b))
+roles-there r a h b l d = λ i s. there s i
+  where
+    there : (s : Role) → hasRole s (withRole r a h) b ≡ hasRole s h b
+    there s = listed-with r s a h b l ∙ rw (ne-eqb b a d, and-false (only r s)) (or-false (hasRole s h b))
 
 -- ---- all signals
 

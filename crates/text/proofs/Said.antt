@@ -1,6 +1,6 @@
 -- Every line of an accepted text holds of the table read: none is lost, and no later line changes what an earlier one said (18, 20).
 use mathlib.Core.Path.{_≡_, refl, sym, ap, subst, _∙_}
-use mathlib.Core.Bool.{Bool, true, false, _||_, cond}
+use mathlib.Core.Bool.{Bool, true, false, cond}
 use mathlib.Core.List.{List, [], _∷_, _++_, append-nil, append-assoc}
 use Prim.Native.Nat.{ℕ, suc, _+_, _*_, _≤_, _<_}
 use native.Mathlib.Omega.{arith}
@@ -9,11 +9,10 @@ use lib.Dec.{T, ltb, T-not}
 use lib.ListN.{length, getD}
 use lib.Seq.{getD-set-same, getD-set-other}
 use Rattle.theory.proofs.Table.{table-narrow}
-use Rattle.theory.specs.Table.{table as tableOf, member}
+use Rattle.theory.specs.Table.{table as tableOf}
 use Rattle.text.specs.declared.Place.{Place}
 use Rattle.text.specs.declared.Place.the-variants.{Head}
 use Rattle.text.specs.declared.Role.{Role}
-use Rattle.text.specs.declared.Role.the-variants.{Input, Output}
 use Rattle.text.specs.declared.Spelling.{Spelling}
 use Rattle.text.specs.declared.Spelling.the-variants.{Exact}
 use Rattle.text.specs.Fields.{split, value}
@@ -23,7 +22,7 @@ use Rattle.text.specs.Lookup.{declares}
 use Rattle.text.proofs.Names.{index-append, index-put}
 use Rattle.text.proofs.Lines.{From, of-table, of-declaration, of-step, of-refusal, from-line}
 use Rattle.text.proofs.Entries.{started-of, declaring-of, stepping-of}
-use Rattle.text.proofs.Roles.{rolesAt, only, roles-here, roles-there}
+use Rattle.text.proofs.Roles.{rolesAt, only, someRole, only-some, undeclared, roles-here, roles-there}
 use Rattle.text.proofs.Accepted.{with-states, with-initial, Sound, entered-sound, finished-same, onward-finished, unless-nil, opened, opened-sound}
 
 -- What an entry says holds of a reading.
@@ -53,7 +52,7 @@ keeps-self : (a : Reading) → Keeps a a
 keeps-self a = record { states = refl; initial = refl; more = []; signals = sym (append-nil (a .signals)); roles = λ i d. refl; steps = λ k n. refl }
 
 kept-declared : {a b : Reading} → Keeps a b → (i : ℕ) → T (declares a i) → T (declares b i)
-kept-declared u i d = subst (λ p. T (p .0 || p .1)) (sym (u .roles i d)) d
+kept-declared u i d = subst (λ p. T (someRole p)) (sym (u .roles i d)) d
 
 keeps-then : {a b c : Reading} → Keeps a b → Keeps b c → Keeps a c
 keeps-then {a} {b} {c} u v = record {
@@ -74,24 +73,15 @@ known-put l s = go (ltb (indexOf (s .name) l) (length l))
     go true = ([], sym (append-nil l), refl)
     go false = (s ∷ [], refl, index-put s l)
 
-undeclared : (x y : Bool) → ¬ T (x || y) → _≡_ {A = Bool × Bool} (x, y) (false, false)
-undeclared true y n = absurd (n tt)
-undeclared false true n = absurd (n tt)
-undeclared false false n = refl
-
 module _ (l : List Signal) (room : ℕ) where
   -- The number of a declared name stays.
   kept-index : {a b : Reading} → Sound l room a → Keeps a b → (n : List ℕ) → T (declares a (indexOf n (a .signals))) → indexOf n (b .signals) ≡ indexOf n (a .signals)
   kept-index {a} w u n d = ap (indexOf n) (u .signals) ∙ index-append Exact n (a .signals) (u .more) (w .numbered (indexOf n (a .signals)) d)
 
-  only-declared : (r : Role) {p : Bool × Bool} → p ≡ only r → T (p .0 || p .1)
-  only-declared Input e = subst (λ p. T (p .0 || p .1)) (sym e) tt
-  only-declared Output e = subst (λ p. T (p .0 || p .1)) (sym e) tt
-
   holds-kept : (e : Entry) {a b : Reading} → Sound l room a → Keeps a b → Holds a e → Holds b e
   holds-kept (table n i) w u (h, k) = (u .states ∙ h, u .initial ∙ k)
   holds-kept (declaration r n) {a} {b} w u h =
-      let d : T (declares a (indexOf n (a .signals))) = only-declared r h in
+      let d : T (declares a (indexOf n (a .signals))) = only-some r h in
       rw (kept-index w u n d) (u .roles (indexOf n (a .signals)) d ∙ h)
   holds-kept (step from n to) {a} {b} w u (d, c, k) =
       let e = kept-index w u n d in (
@@ -113,7 +103,7 @@ module _ (l : List Signal) (room : ℕ) where
       let u = declaring-of c a r s i b e in
       let (more, grown, same) = known-put (a .signals) s in
       subst (Done (declaration r (s .name)) a) (u .gives) (record {
-        holds = rw same (roles-here r i (a .header) (u .low) (undeclared (member (a .header .inputs) i) (member (a .header .outputs) i) (u .new)));
+        holds = rw same (roles-here r i (a .header) (u .low) (undeclared (a .header) i (u .new)));
         keeps = record {
           states = with-states r i (a .header);
           initial = with-initial r i (a .header);

@@ -7,17 +7,17 @@ use lib.Bits.{bitOr}
 use lib.Dec.{eqb, ltb, leb}
 use lib.ListN.{length, getD, set, replicate, take}
 use Rattle.theory.specs.declared.Automaton.{Automaton}
-use Rattle.theory.specs.Table.{header, withLists, Table, table as tableOf}
+use Rattle.theory.specs.Table.{header, Table, table as tableOf}
 use Rattle.theory.specs.Checks.{declared}
 use Rattle.text.specs.declared.Place.{Place}
 use Rattle.text.specs.declared.Place.the-variants.{Head, Declarations, Steps}
 use Rattle.text.specs.declared.Role.{Role}
-use Rattle.text.specs.declared.Role.the-variants.{Input, Output}
 use Rattle.text.specs.declared.Spelling.{Spelling}
 use Rattle.text.specs.declared.Spelling.the-variants.{Exact}
 use Rattle.text.specs.declared.TextRefusal.{TextRefusal}
 use Rattle.text.specs.Fields.{split, matches}
 use Rattle.text.specs.Lines.{Entry, table, declaration, step, refused, roleWord, parse}
+use Rattle.text.specs.Roles.{listOf, withList}
 
 -- A signal: its name, and where that was first declared: in which text (1, 2), from which byte on.
 pub record Signal : Type 0 where
@@ -70,9 +70,9 @@ started st states initial =
 
 -- ---- a declaration: 18, 28, 21
 
+-- The header with the signal a in the list of the role too.
 abbrev pub withRole : Role → ℕ → Automaton → Automaton
-withRole Input a h = withLists h (bitOr (h .inputs) (2 ^ a)) (h .outputs)
-withRole Output a h = withLists h (h .inputs) (bitOr (h .outputs) (2 ^ a))
+withRole r a h = withList r (bitOr (listOf r h) (2 ^ a)) h
 
 -- The signals with this one, if its name is new.
 abbrev pub known : List Signal → Signal → ℕ → List Signal

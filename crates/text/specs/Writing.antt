@@ -7,14 +7,13 @@ use lib.Dec.{T, ltb}
 use lib.ListN.{length, getD, drop}
 use Rattle.theory.specs.Bounded.{any}
 use Rattle.theory.specs.Closure.{isSome}
-use Rattle.theory.specs.Table.{Table, automaton, cellAt, member}
+use Rattle.theory.specs.Table.{Table, automaton, cellAt}
 use Rattle.theory.specs.Checks.{Check, unplaced, first, unlessRefused, declared, tableChecks}
-use Rattle.text.specs.declared.Role.{Role}
-use Rattle.text.specs.declared.Role.the-variants.{Input, Output}
 use Rattle.text.specs.declared.Spelling.{Spelling}
 use Rattle.text.specs.declared.Spelling.the-variants.{Exact, Folded}
 use Rattle.text.specs.Fields.{matches, nameOk}
 use Rattle.text.specs.Lines.{tableWord, roleWord, stepWord}
+use Rattle.text.specs.Roles.{roleOf}
 
 -- ---- numbers
 
@@ -51,10 +50,6 @@ those f s (suc n) = cond (f s) (s ∷ those f (suc s) n) (those f (suc s) n)
 unfoldable pub signals : Table → List ℕ
 signals t = those (declared t) 0 32
 
--- The role of a declared signal.
-abbrev pub roleOf : Table → ℕ → Role
-roleOf t a = cond (member (t .header .inputs) a) Input Output
-
 -- The name of a signal; a missing entry is an empty name.
 abbrev pub nameOf : List (List ℕ) → ℕ → List ℕ
 nameOf names a = getD names a []
@@ -63,7 +58,7 @@ unfoldable pub tableRow : Table → List ℕ → List (List ℕ)
 tableRow t name = tableWord ∷ name ∷ decimal (t .header .states) ∷ decimal (t .header .initial) ∷ []
 
 unfoldable pub signalRow : Table → List (List ℕ) → ℕ → List (List ℕ)
-signalRow t names a = roleWord (roleOf t a) ∷ nameOf names a ∷ []
+signalRow t names a = roleWord (roleOf (t .header) a) ∷ nameOf names a ∷ []
 
 unfoldable pub stepRow : Table → List (List ℕ) → ℕ → ℕ → List (List ℕ)
 stepRow t names s a = stepWord ∷ decimal s ∷ nameOf names a ∷ decimal (cellAt t s a) ∷ []

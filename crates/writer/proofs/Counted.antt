@@ -1,72 +1,44 @@
--- How long the lines of a table's text are.
-use mathlib.Core.Path.{_≡_, ap}
-use mathlib.Core.Bool.{Bool}
+-- Texts put into a buffer one after the other, where places are counted on past the buffer's end.
+use mathlib.Core.Path.{_≡_, refl, sym, ap, _∙_}
 use mathlib.Core.List.{List, [], _++_}
-use Prim.Native.Nat.{ℕ, _+_, _-_, _*_, _^_, _≤_, _<_}
+use Prim.Native.Nat.{ℕ, _+_, _^_, _<_}
 use native.Mathlib.Omega.{arith}
-use lib.Count.{trailingZeros}
-use lib.ListN.{length, getD, length-append}
-use borrow.Author.Tests.{lt-ltb, le-ltb}
-use Rattle.theory.specs.declared.Automaton.{Automaton}
-use Rattle.theory.specs.Table.{declaredSet, table, member}
-use Rattle.text.specs.Writing.{decimal, nameOf, textLength}
-use Rattle.emit.specs.Rows.{tableText, signalText}
-use Rattle.emit.proofs.Decimal.{decimal-most}
-use Rattle.emit.proofs.Rows.{table-long, step-long}
-use Rattle.writer.specs.Rows.{signalLines, cellText, stateLines, stepLines}
-use Rattle.writer.proofs.Lines.{signals-next, steps-next, text-parts}
+use lib.ListN.{length, length-append}
+use Rattle.emit.specs.Buffer.{stored}
+use Rattle.emit.proofs.Buffer.{length-stored, stored-append}
 
--- What is counted, with what is left, is the whole.
-pub record Counted (whole : List ℕ) (total : ℕ) (rest : List ℕ) : Type 0 where
-  pub sum : total + length rest ≡ length whole
+-- s was put into d at a place: the place after it is r, and the buffer is then b.
+abbrev pub Counts : List ℕ → ℕ → List ℕ → ℕ → List ℕ → Type 0
+Counts d at s r b = (r ≡ at + length s) × (b ≡ stored d at s)
 
-pub counted-none : (whole rest : List ℕ) → whole ≡ rest → Counted whole 0 rest
-counted-none whole rest e = record { sum = omega (arith, ap length e) }
+pub counts-none : (d : List ℕ) (at : ℕ) → Counts d at [] at d
+unfolding stored
+counts-none d at = (let z : at ≡ at + 0 = omega arith in z, refl)
 
-module _ (whole rest : List ℕ) (total : ℕ) (l : Counted whole total rest) where
-  pub counted-next : (s t : List ℕ) (x : ℕ) → rest ≡ s ++ t → x ≡ length s → Counted whole (total + x) t
-  counted-next s t x e f = record { sum = omega (arith, l .sum, ap length e, length-append s t) }
+pub counts-then : (d : List ℕ) (at : ℕ) (s t : List ℕ) (r r′ : ℕ) (b b′ : List ℕ) → Counts d at s r b → Counts b r t r′ b′ → Counts d at (s ++ t) r′ b′
+counts-then d at s t r r′ b b′ (p, q) (p′, q′) = (omega (arith, p, p′, length-append s t), q′ ∙ rw (q, p) (sym (stored-append d at s t)))
 
-  pub counted-all : rest ≡ [] → total ≡ length whole
-  counted-all e = omega (arith, l .sum, ap length e)
+-- What is left of a text, put after what stands there, gives the whole.
+pub record Left (d₀ : List ℕ) (at₀ : ℕ) (whole d : List ℕ) (at : ℕ) (rest : List ℕ) : Type 0 where
+  pub size : length d ≡ length d₀
+  pub ends : at + length rest ≡ at₀ + length whole
+  pub text : stored d at rest ≡ stored d₀ at₀ whole
 
--- ---- the lowest of the signals left
+pub left-all : (d : List ℕ) (at : ℕ) (whole rest : List ℕ) → whole ≡ rest → Left d at whole d at rest
+left-all d at whole rest e = record { size = refl; ends = ap (λ l. at + length l) (sym e); text = ap (stored d at) (sym e) }
 
-module _ (whole : List ℕ) (total left s left′ : ℕ) (bound : left < 2 ^ 32) (more : ¬ (left ≡ 0)) (e : s ≡ trailingZeros 32 left)
-    (h : left′ ≡ left - 2 ^ trailingZeros 32 left) (names : List (List ℕ)) (name : List ℕ) (g : name ≡ nameOf names s) (x : ℕ) where
-  pub signals-counted : (inputs : ℕ) → Counted whole total (signalLines left inputs names) → (input : Bool) → input ≡ member inputs s
-      → x ≡ length (signalText input name) → Counted whole (total + x) (signalLines left′ inputs names)
-  signals-counted inputs l input f p =
-      counted-next whole (signalLines left inputs names) total l (signalText input name) (signalLines left′ inputs names) x
-      (signals-next left inputs names bound more s e input f name g left′ h) p
+module _ (d₀ : List ℕ) (at₀ : ℕ) (whole d : List ℕ) (at : ℕ) (rest : List ℕ) (l : Left d₀ at₀ whole d at rest) where
+  pub left-next : (s t : List ℕ) (r : ℕ) (b : List ℕ) → rest ≡ s ++ t → Counts d at s r b → Left d₀ at₀ whole b r t
+  left-next s t r b e (p, q) = record {
+    size = ap length q ∙ length-stored d at s ∙ l .size;
+    ends = omega (arith, l .ends, ap length e, length-append s t, p);
+    text = rw (q, p) (sym (stored-append d at s t) ∙ (rw e at (l .text)));
+  }
 
-  pub steps-counted : (n : ℕ) (cells : List ℕ) (state first : ℕ) → first ≡ state * 32 → Counted whole total (stateLines n cells names state left) → state < n
-      → length cells ≡ n * 32 → x ≡ length (cellText n state name (getD cells (first + s) 0)) → Counted whole (total + x) (stateLines n cells names state left′)
-  steps-counted n cells state first f l k q p =
-      counted-next whole (stateLines n cells names state left) total l (cellText n state (nameOf names s) (getD cells (first + s) 0)) (stateLines n cells names state left′) x
-      (steps-next n cells names state first left s f bound more k q e left′ h) (rw g at p)
+  pub left-none : rest ≡ [] → Counts d₀ at₀ whole at d
+  unfolding stored
+  left-none e = (omega (arith, l .ends, ap length e), rw e at (l .text))
 
--- ---- a cell
-
-module _ (n from cell : ℕ) (name : List ℕ) where
-  pub cell-nothing : n ≤ cell → 0 ≡ length (cellText n from name cell)
-  cell-nothing h = rw (le-ltb cell n h)
-
-  pub cell-long : cell < n → (x y : ℕ) → x ≡ length (decimal from) → y ≡ length (decimal cell) → length name + x + y + 8 ≡ length (cellText n from name cell)
-  cell-long h x y e f = rw (lt-ltb cell n h, e, f) (step-long from name cell)
-
-  pub cell-most : length name ≤ 16 → (x y : ℕ) → x ≡ length (decimal from) → y ≡ length (decimal cell) → length name + x + y + 8 ≤ 34
-  cell-most h x y e f = omega (arith, decimal-most from, decimal-most cell)
-
--- ---- the text
-
-pub text-long : (a : Automaton) (cells : List ℕ) (name : List ℕ) (names : List (List ℕ)) (x y : ℕ) → x ≡ length (decimal (a .states)) → y ≡ length (decimal (a .initial))
-    → (set : ℕ) → set ≡ declaredSet a → (j k : ℕ) → j ≡ length (signalLines set (a .inputs) names) → k ≡ length (stepLines (a .states) cells names)
-    → length name + x + y + 9 + j + k ≡ textLength (table a cells) name names
-unfolding textLength
-text-long a cells name names x y e f set g j k p q =
-    let title = tableText name (a .states) (a .initial) in
-    let lines = signalLines (declaredSet a) (a .inputs) names in
-    let steps = stepLines (a .states) cells names in
-    let j′ : j ≡ length lines = rw g at p in
-    omega (arith, e, f, q, table-long name (a .states) (a .initial), ap length (text-parts a cells names name), length-append (title ++ lines) steps, length-append title lines)
+  -- The end of the next part fits a number of 64 bits, since that of the whole does.
+  pub left-room : (s t : List ℕ) → rest ≡ s ++ t → at₀ + length whole < 2 ^ 64 → at + length s < 2 ^ 64
+  left-room s t e h = omega (arith, l .ends, ap length e, length-append s t)

@@ -43,7 +43,7 @@ module _ (t : Table) (name : List ℕ) (names : List (List ℕ)) (u : Table) (na
   unfolding textLength
   length-same valid = ap length (same-texts t name names u name′ names′ w valid)
 
-  -- With as much room the replies are equal, refusals too.
+  -- Two calls with as much room have equal replies, refusals too.
   pub write-same-reply : (room : ℕ) → writerReply t name names room ≡ writerReply u name′ names′ room
   unfolding writerReply
   write-same-reply room = go (first (writerChecks t name names room)) refl ∙ rw (same-checks t name names u name′ names′ w room)

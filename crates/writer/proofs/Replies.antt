@@ -16,7 +16,8 @@ use Rattle.theory.specs.Checks.{first, unlessRefused, tableChecks, refusal}
 use Rattle.theory.specs.Valid.{Valid}
 use Rattle.theory.proofs.Checks.{first-refused, first-accepted, first-part, checks-valid}
 use Rattle.text.specs.Writing.{wholeText, textLength, writerChecks, writerBytes}
-use Rattle.emit.proofs.Buffer.{Puts, stored-front}
+use Rattle.emit.specs.Buffer.{stored}
+use Rattle.emit.proofs.Buffer.{stored-front}
 use Rattle.names.specs.LentNames.{Named, nameChecks}
 use Rattle.names.proofs.Checks.{passed-named, passed-short}
 use Rattle.writer.specs.declared.Printed.{Printed}
@@ -69,10 +70,10 @@ module _ (t : Table) (name : List ℕ) (names : List (List ℕ)) where
     pub print-long : length out < n → Refuses
     print-long h = long (rw (lt-ltb (length out) (textLength t name names) (omega arith)))
 
-    pub print-fits : n ≤ 65536 → n ≤ length out → (r : ℕ) (out′ : List ℕ) → Puts out 0 text r out′
+    pub print-fits : n ≤ 65536 → n ≤ length out → (out′ : List ℕ) → out′ ≡ stored out 0 text
         → (reply.Length n ≡ printReply t name names (length out)) × (out′ ≡ printBytes t name names out)
     unfolding printReply printBytes lengthCheck first textLength
-    print-fits h k r out′ (_, put) =
+    print-fits h k out′ put =
         let short : ltb (length out) (length text) ≡ false = le-ltb (length out) (length text) (omega arith) in
         let small : ltb 65536 (length text) ≡ false = le-ltb 65536 (length text) (omega arith) in
         (rw (short, small, size), rw (short, small) (put ∙ stored-front out text (omega arith)))

@@ -1,4 +1,4 @@
--- The writer's reply, for all arguments, and what its parts answer.
+-- What the writer replies, for all arguments, and what its parts do.
 use mathlib.Core.List.{List, [], _∷_, _++_}
 use Prim.Native.Nat.{ℕ}
 use lib.ListN.{length, drop}

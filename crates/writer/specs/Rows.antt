@@ -5,21 +5,21 @@ use mathlib.Core.List.{List, [], map}
 use Prim.Native.Nat.{ℕ, _+_, _*_, _≤_, _<_}
 use lib.Dec.{T, ltb}
 use lib.ListN.{length, getD}
+use Rattle.theory.specs.declared.Automaton.{Automaton}
 use Rattle.theory.specs.Sets.{has}
 use Rattle.theory.specs.Table.{header, Table, table}
 use Rattle.text.specs.Writing.{printed, those, signalRow, stepRow, stepRows, hasStep}
 use Rattle.emit.specs.Rows.{stepText}
 
--- The declarations of the signals of a set, by ascending number; those of `inputs` are inputs.
-unfoldable pub signalLines : ℕ → ℕ → List (List ℕ) → List ℕ
-signalLines set inputs names =
-    printed (map (signalRow (table (header 0 0 inputs 0) []) names) (those (has set) 0 32))
+-- The declarations of the signals of a set, by ascending number, in the roles that the header gives them.
+unfoldable pub signalLines : ℕ → Automaton → List (List ℕ) → List ℕ
+signalLines set h names = printed (map (signalRow (table h []) names) (those (has set) 0 32))
 
--- A cell of n states at the state s; nothing if it holds no step.
+-- The line of a cell at the state s, of n states; nothing if the cell holds no step.
 abbrev pub cellText : ℕ → ℕ → List ℕ → ℕ → List ℕ
 cellText n s name cell = cond (ltb cell n) (stepText s name cell) []
 
--- What the lines of steps depend on: the number of states, and the cells.
+-- The part of a table that the lines of steps depend on: the number of states, and the cells.
 abbrev pub steps : ℕ → List ℕ → Table
 steps n cells = table (header n 0 0 0) cells
 
@@ -29,6 +29,7 @@ stateLines n cells names s set =
     let t = steps n cells in
     printed (map (stepRow t names s) (those (λ a. has set a && hasStep t s a) 0 32))
 
+-- The steps of all states.
 abbrev pub stepLines : ℕ → List ℕ → List (List ℕ) → List ℕ
 stepLines n cells names = printed (stepRows (steps n cells) names 0 n)
 

@@ -5,14 +5,13 @@ ghost use lib.ListN.{length};
 ghost use Rattle.theory.specs.Table.{declaredSet, table};
 ghost use Rattle.theory.specs.Valid.{Valid};
 ghost use Rattle.theory.specs.Checks.{first};
-ghost use Rattle.text.specs.Writing.{writerBytes};
+ghost use Rattle.text.specs.Writing.{textLength, writerBytes};
 ghost use Rattle.names.specs.LentNames.{texts, Named};
 ghost use Rattle.writer.specs.Replies.{checksBefore, printReply, printBytes, writerReply};
 use theory::Automaton;
 use theory::Checked;
 use theory::Refusal;
 
-mod lengths;
 mod rows;
 
 // Reply of `write`: the length of the text, which stands in the lent buffer; or a refusal.
@@ -21,7 +20,7 @@ pub enum Printed {
     Refused(Refusal),
 }
 
-// All checks but 23, which the length of the text decides.
+// Runs all checks but 23, which the length of the text decides.
 fn check(a: Automaton, cells: &[u16], name: &[u8], names: &[&[u8]]) -> Checked
     ensures { λ r. ⌜ r ≡ first (checksBefore (table a (now (cells .entry))) (now (name .entry)) (texts (now (names .entry)))) ⌝ }
 {
@@ -32,7 +31,18 @@ fn check(a: Automaton, cells: &[u16], name: &[u8], names: &[&[u8]]) -> Checked
     names::check(a, name, names)
 }
 
-// Check 23 and the text.
+// Measures the text by putting it into a buffer of one byte: the place is counted on past its end.
+fn measure(a: Automaton, cells: &[u16], name: &[u8], names: &[&[u8]]) -> usize
+    requires { ⌜ Valid (table a (now cells)) ⌝ }
+    requires { ⌜ Named (declaredSet a) (texts (now names)) ⌝ }
+    requires { ⌜ length (now name) ≤ 16 ⌝ }
+    ensures { λ r. ⌜ r ≡ textLength (table a (now (cells .entry))) (now (name .entry)) (texts (now (names .entry))) ⌝ }
+{
+    let mut scratch = [0u8; 1];
+    rows::text(&mut scratch, a, cells, name, names)
+}
+
+// Runs check 23 and writes the text.
 fn print(out: &mut [u8], a: Automaton, cells: &[u16], name: &[u8], names: &[&[u8]]) -> Printed
     requires { ⌜ Valid (table a (now cells)) ⌝ }
     requires { ⌜ Named (declaredSet a) (texts (now names)) ⌝ }
@@ -40,7 +50,7 @@ fn print(out: &mut [u8], a: Automaton, cells: &[u16], name: &[u8], names: &[&[u8
     ensures { λ r. ⌜ r ≡ printReply (table a (now (cells .entry))) (now (name .entry)) (texts (now (names .entry))) (length (now (out .entry))) ⌝ }
     ensures { λ r. ⌜ now (out .exit) ≡ printBytes (table a (now (cells .entry))) (now (name .entry)) (texts (now (names .entry))) (now (out .entry)) ⌝ }
 {
-    let n = lengths::text(a, cells, name, names);
+    let n = measure(a, cells, name, names);
     if 65536 < n {
         return Printed::Refused(table::refusal(23, 0));
     }

@@ -1,10 +1,23 @@
-use Rattle.emit.proofs.Rows.{signal-in, signal-out}
+use Rattle.emit.proofs.Buffer.{put-beyond}
+use Rattle.emit.proofs.Rows.{word-within, signal-put}
 use borrow.Author.Needs.{needs}
 use Rattle.emit.proofs.signal_line.Statement.{statement}
 use Rattle.emit.proofs.signal_line.Tie as tie
 
-slice-aggregate-field : tie.Need-slice-aggregate-field
-slice-aggregate-field c = search needs
+returns : tie.Need-returns
+returns c = put-beyond _ _ _ (c .if1 .taken)
+
+role-word-requires : tie.Need-role-word-requires
+role-word-requires c κs = search needs
+
+sub-field : tie.Need-sub-field
+sub-field c = search needs
+
+part-field-start : tie.Need-part-field-start
+part-field-start c = search needs
+
+part-field-end : tie.Need-part-field-end
+part-field-end c = search (word-within, needs)
 
 field-requires : tie.Need-field-requires
 field-requires c κs = search needs
@@ -15,41 +28,24 @@ field-requires-2 c κs = search needs
 same-length : tie.Need-same-length
 same-length c = search needs
 
-returns : tie.Need-returns
-returns c =
-    let j = c .before .before in
-    let i = j .before .before .before .before in
-    signal-in _ _ _ _ _ _ _ _ (i .before .before .before .if1 .taken) (i .field .ensures) (j .field2 .ensures)
-
-slice-aggregate-field-2 : tie.Need-slice-aggregate-field-2
-slice-aggregate-field-2 c = search needs
-
-field-requires-3 : tie.Need-field-requires-3
-field-requires-3 c κs = search needs
-
-field-requires-4 : tie.Need-field-requires-4
-field-requires-4 c κs = search needs
-
-same-length-2 : tie.Need-same-length-2
-same-length-2 c = search needs
-
 returns-2 : tie.Need-returns-2
 returns-2 c =
     let j = c .before .before in
     let i = j .before .before .before .before in
-    signal-out _ _ _ _ _ _ _ _ (i .before .before .before .if1 .left) (i .field3 .ensures) (j .field4 .ensures)
+    let w = i .before .before .before .before .before in
+    let a = w .before .before .before .before .args in
+    signal-put (a .role) _ _ (a .name .now) _ _ _ _ (w .role-word .result .bytes) (w .role-word .result .length) (w .role-word .ensures .1) (i .field .ensures) (j .field2 .ensures)
 
 pub signal-line-spec : {M : Type 1} → statement M
 signal-line-spec =
     tie.close
     (tie.spec
-    slice-aggregate-field
+    returns
+    role-word-requires
+    sub-field
+    part-field-start
+    part-field-end
     field-requires
     field-requires-2
     same-length
-    returns
-    slice-aggregate-field-2
-    field-requires-3
-    field-requires-4
-    same-length-2
     returns-2)

@@ -1,5 +1,6 @@
 use mathlib.Core.Path.{sym, _∙_}
 use borrow.Author.Tests.{leb-true}
+use Rattle.emit.proofs.Buffer.{put-beyond}
 use Rattle.emit.proofs.Rows.{line-four}
 use borrow.Author.Needs.{needs}
 use Rattle.emit.proofs.step_line.Statement.{statement}
@@ -16,6 +17,9 @@ same-length c = search needs
 
 returns : tie.Need-returns
 returns c = search needs
+
+returns-2 : tie.Need-returns-2
+returns-2 c = put-beyond _ _ _ (c .if2 .taken)
 
 slice-aggregate-field : tie.Need-slice-aggregate-field
 slice-aggregate-field c = search needs
@@ -35,8 +39,8 @@ number-requires-2 c κs = search needs
 same-length-2 : tie.Need-same-length-2
 same-length-2 c = search needs
 
-returns-2 : tie.Need-returns-2
-returns-2 c =
+returns-3 : tie.Need-returns-3
+returns-3 c =
     let l = c .before .before in
     let k = l .before .before .before .before in
     let j = k .before .before .before .before in
@@ -51,10 +55,11 @@ step-line-spec =
     step-within-requires
     same-length
     returns
+    returns-2
     slice-aggregate-field
     field-requires
     number-requires
     field-requires-2
     number-requires-2
     same-length-2
-    returns-2)
+    returns-3)

@@ -4,10 +4,10 @@ use native.Mathlib.Omega.{arith}
 use lib.Count.{trailingZeros}
 use lib.Pow.{pow-pos}
 use Rattle.sets.proofs.Visit.{low}
-use Rattle.emit.proofs.Buffer.{Left, left-all, left-next, left-none}
+use Rattle.writer.proofs.Counted.{Left, left-all, left-next, left-none}
 use Rattle.names.specs.LentNames.{texts}
 use Rattle.writer.specs.Rows.{stateLines}
-use Rattle.writer.proofs.Lines.{entry-lent, steps-next, steps-none}
+use Rattle.writer.proofs.Lines.{entry-lent, steps-next, steps-room, steps-none}
 use borrow.Author.Needs.{needs}
 use Rattle.writer.proofs.rows.state_lines.Statement.{statement}
 use Rattle.writer.proofs.rows.state_lines.Tie as tie
@@ -50,7 +50,15 @@ shared-slice-read-cell-line : tie.Need-shared-slice-read-cell-line Inv-loop μ-l
 shared-slice-read-cell-line c = omega (arith, below (c .before .before))
 
 cell-line-requires : tie.Need-cell-line-requires Inv-loop μ-loop
-cell-line-requires c κs = search (entry-lent, below (c .before .before), needs)
+cell-line-requires c κs =
+    let v = c .before .before in
+    let l = v .before .before in
+    let s = l .before .before .before in
+    let a = s .args in (
+      entry-lent (a .states) (a .cells .now) (a .names .now) (s .pre .0) (a .state) _ _ (l .loop .inv .1) (s .pre .1 .0) (below v),
+      steps-room (a .states) (a .cells .now) _ _ _ _ _ _ (a .state) _ (l .loop .left) _ (l .loop .inv .2) (s .pre .1 .1)
+          (l .loop .inv .1) (l .loop .inv .0) (v .before .loop-test .taken) (s .pre .1 .0) (s .pre .0 .size) (v .lowest .ensures),
+    )
 
 rest-requires : tie.Need-rest-requires Inv-loop μ-loop
 rest-requires c κs = search needs
@@ -70,7 +78,7 @@ loop-again c =
       omega (arith, c .rest .ensures),
       l .loop .inv .1,
       left-next _ _ _ _ _ _ (l .loop .inv .2) _ _ _ _
-          (steps-next (s .args .states) (s .args .cells .now) _ (s .args .state) _ (l .loop .left) _ (l .loop .inv .1) (l .loop .inv .0) more (s .pre .1) (s .pre .0 .size)
+          (steps-next (s .args .states) (s .args .cells .now) _ (s .args .state) _ (l .loop .left) _ (l .loop .inv .1) (l .loop .inv .0) more (s .pre .1 .0) (s .pre .0 .size)
           (v .lowest .ensures) _ (c .rest .ensures))
           (p .cell-line .ensures),
     )

@@ -1,10 +1,10 @@
 use mathlib.Core.Path.{_≡_, refl}
 use Prim.Native.Nat.{_-_, _≤_}
 use native.Mathlib.Omega.{arith}
-use Rattle.emit.proofs.Buffer.{Left, left-all, left-next, left-none}
+use Rattle.writer.proofs.Counted.{Left, left-all, left-next, left-none}
 use Rattle.names.specs.LentNames.{texts}
 use Rattle.writer.specs.Rows.{stepLines}
-use Rattle.writer.proofs.Lines.{rowsFrom, rows-all, rows-next, rows-none}
+use Rattle.writer.proofs.Lines.{rowsFrom, rows-all, rows-next, rows-room, rows-none}
 use borrow.Author.Needs.{needs}
 use Rattle.writer.proofs.rows.step_lines.Statement.{statement}
 use Rattle.writer.proofs.rows.step_lines.Tie as tie
@@ -25,7 +25,17 @@ loop-holds : tie.Need-loop-holds Inv-loop μ-loop
 loop-holds c = (omega arith, refl, left-all _ _ _ _ (rows-all _ _ _))
 
 state-lines-requires : tie.Need-state-lines-requires Inv-loop μ-loop
-state-lines-requires c κs = search needs
+state-lines-requires c κs =
+    let l = c .before .before .loop in
+    let e = c .before .before .before in
+    let s = e .before .before .before in
+    let a = s .args in (
+      s .pre .0,
+      (
+        omega arith,
+        rows-room (a .a .states) (a .cells .now) (texts (a .names .now)) _ _ _ _ _ (e .declared .result) (rw (e .declared .ensures) (s .pre .1 .0)) (l .s) (l .inv .2) (s .pre .1 .1) (omega arith),
+      ),
+    )
 
 add-s : tie.Need-add-s Inv-loop μ-loop
 add-s c = search needs
@@ -42,7 +52,7 @@ loop-again c =
     let a = s .args in (
       omega arith,
       l .inv .1,
-      left-next _ _ _ _ _ _ (l .inv .2) _ _ _ _ (rows-next (a .a .states) (a .cells .now) (texts (a .names .now)) _ (rw (e .declared .ensures) (s .pre .1)) (l .s) (omega arith)) (c .before .before .state-lines .ensures),
+      left-next _ _ _ _ _ _ (l .inv .2) _ _ _ _ (rows-next (a .a .states) (a .cells .now) (texts (a .names .now)) _ (rw (e .declared .ensures) (s .pre .1 .0)) (l .s) (omega arith)) (c .before .before .state-lines .ensures),
     )
 
 same-length : tie.Need-same-length Inv-loop μ-loop
