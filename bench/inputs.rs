@@ -162,25 +162,25 @@ pub fn respelled(name: &str, capitals: u32) -> String {
     name.chars().enumerate().map(letter).collect()
 }
 
-/// Texts of a module and of a plan with their tables, and what the lister prints of them.
+/// Texts of a module and of a plan with their tables, and what the lister or the report prints of them.
 pub struct Texts {
     pub tables: (Owned, Owned),
     pub module: Vec<u8>,
     pub plan: Vec<u8>,
-    pub listing: String,
+    pub printed: String,
 }
 
 /// One text for both.
 pub fn same_texts(seed: u64, limit: usize, names: &[String]) -> Texts {
     let (t, text) = text_table(seed, limit, names, 0);
-    Texts { tables: (t.clone(), t), module: text.clone(), plan: text, listing: String::new() }
+    Texts { tables: (t.clone(), t), module: text.clone(), plan: text, printed: String::new() }
 }
 
 /// One text for both, with 32 spellings of a name of the greatest length, which differ at their beginnings only.
 pub fn spellings(seed: u64, limit: usize) -> Texts {
     let names: Vec<String> = (0..32).map(|i| respelled("reference_signal", i)).collect();
-    let listing = (3..34).map(|line| format!("1\t{line}\t1\t2\n")).collect();
-    Texts { listing, ..same_texts(seed, limit, &names) }
+    let printed = (3..34).map(|line| format!("1\t{line}\t1\t2\n")).collect();
+    Texts { printed, ..same_texts(seed, limit, &names) }
 }
 
 /// A module with 16 long names, and a plan with the same in capital letters.
@@ -189,8 +189,8 @@ pub fn capitals(seed: u64, limit: usize) -> Texts {
     let others: Vec<String> = names.iter().map(|n| n.to_ascii_uppercase()).collect();
     let (a, module) = text_table(seed, limit, names, 0);
     let (b, plan) = text_table(seed, limit, &others, 16);
-    let listing = (2..18).map(|line| format!("2\t{line}\t1\t{line}\n")).collect();
-    Texts { tables: (a, b), module, plan, listing }
+    let printed = (2..18).map(|line| format!("2\t{line}\t1\t{line}\n")).collect();
+    Texts { tables: (a, b), module, plan, printed }
 }
 
 /// A table whose text has at most so many bytes, nearly all of them, and that text. Its signals have the numbers from `first` on. Every state
@@ -203,7 +203,7 @@ pub fn text_table(seed: u64, limit: usize, names: &[String], first: usize) -> (O
     let all = ((1u64 << names.len()) - 1) << first;
     let mut t = Owned::new(states, all as u32 & 0x5555_5555, all as u32 & 0xaaaa_aaaa);
     let mut r = Random(seed);
-    let mut text = heading(&t, names, first);
+    let mut text = heading(&t, "startup", names, first);
     'states: for p in 0..states {
         for i in 0..width {
             let s = if many { i } else { (p % 2) * 2 + i };
@@ -220,13 +220,90 @@ pub fn text_table(seed: u64, limit: usize, names: &[String], first: usize) -> (O
 }
 
 /// The text before the steps.
-fn heading(t: &Owned, names: &[String], first: usize) -> String {
-    let mut text = format!("table\tstartup\t{}\t0\n", t.states);
+fn heading(t: &Owned, name: &str, names: &[String], first: usize) -> String {
+    let mut text = format!("table\t{name}\t{}\t{}\n", t.states, t.initial);
     for (s, name) in names.iter().enumerate() {
-        let kind = if t.inputs >> (first + s) & 1 == 1 { "in" } else { "out" };
-        text.push_str(&format!("{kind}\t{name}\n"));
+        for (kind, set) in [("in", t.inputs), ("out", t.outputs)] {
+            if set >> (first + s) & 1 == 1 {
+                text.push_str(&format!("{kind}\t{name}\n"));
+            }
+        }
     }
     text
+}
+
+/// Makes the text of a table.
+pub fn text_of(t: &Owned, name: &str, names: &[String]) -> String {
+    let mut text = heading(t, name, names, 0);
+    for (k, to) in t.cells.iter().enumerate().filter(|(_, to)| **to != NO_STEP) {
+        text.push_str(&format!("step\t{}\t{}\t{to}\n", k / 32, names[k % 32]));
+    }
+    text
+}
+
+/// Makes the six lines that a report begins with.
+fn six_lines(verdict: &str, pairs: usize, kept: usize, rounds: usize, steps: usize, ends: usize) -> String {
+    format!("verdict\t{verdict}\npairs\t{pairs}\nkept\t{kept}\nrounds\t{rounds}\nsteps\t{steps}\nends\t{ends}\n")
+}
+
+/// Gives the run of document 01, ref and its plan; its signals are power, settled, start and read.
+pub fn documents_run() -> Texts {
+    let mut module = Owned::new(3, 0b1, 0b10);
+    let mut plan = Owned::new(5, 0b100, 0b1011);
+    for (p, s) in [0, 1].into_iter().enumerate() {
+        module.step(p, s, p + 1);
+    }
+    for (q, s) in [2, 0, 1, 3].into_iter().enumerate() {
+        plan.step(q, s, q + 1);
+    }
+    Texts {
+        tables: (module, plan),
+        module: include_bytes!("../examples/ref/module.tab").into(),
+        plan: include_bytes!("../examples/ref/plan.tab").into(),
+        printed: include_str!("../examples/ref/stdout").into(),
+    }
+}
+
+/// Gives the same run with one byte changed, so that there is no sequencer: ref begins where it sends settled, and the plan does not take that there.
+pub fn documents_none() -> Texts {
+    let mut texts = documents_run();
+    texts.tables.0.initial = 1;
+    texts.module = include_str!("../examples/ref/module.tab").replace("ref\t3\t0", "ref\t3\t1").into();
+    texts.printed = six_lines("none", 15, 11, 1, 6, 0);
+    texts
+}
+
+/// Gives ref with the plan of which document 01 says that there is no sequencer.
+pub fn no_sequencer() -> Texts {
+    let mut plan = Owned::new(3, 0b1, 0b10);
+    plan.step(0, 0, 1);
+    plan.step(1, 0, 2);
+    let run = documents_run();
+    let text = text_of(&plan, "plan", &short_names());
+    Texts { tables: (run.tables.0, plan), plan: text.into(), printed: six_lines("none", 9, 2, 2, 0, 0), ..run }
+}
+
+/// Makes a module and a plan that start it up again and again, each a ring of n states. The names come in fours, which take turns as far as there
+/// are states for them: the plan takes a signal from outside; the module takes one and sends one; one is sent beside it. Illegal is every pair where
+/// the module can send and the plan does not want that signal; nothing sent leads there, so all others are kept.
+pub fn startups(n: usize, names: &[String]) -> Texts {
+    let (half, turns) = (names.len() / 2, (names.len() / 4).min(n / 4));
+    let (all, shared) = (u32::MAX >> (32 - names.len()), u32::MAX >> (32 - half));
+    let outside = all & !shared & 0xaaaa_aaaa;
+    let mut module = Owned::new(n, shared & 0x5555_5555, shared & 0xaaaa_aaaa);
+    let mut plan = Owned::new(n, outside, all & !outside);
+    for p in 0..n {
+        let i = p / 4 % turns * 2;
+        let signals = [half + i + 1, i, i + 1, half + i];
+        module.step(p, p % (turns * 2), (p + 1) % n);
+        plan.step(p, signals[p % 4], (p + 1) % n);
+    }
+    let wanted = n / 4 / turns;
+    let (kept, steps) = (n / 2 * (n + wanted), n * (n / 4 + wanted));
+    let sequencer = made((module.clone(), plan.clone())).expect("a sequencer");
+    let printed = six_lines("yes", n * n, kept, 1, steps, 0) + &text_of(&sequencer, "sequencer", names);
+    let texts = (text_of(&module, "module", names), text_of(&plan, "plan", names));
+    Texts { tables: (module, plan), module: texts.0.into(), plan: texts.1.into(), printed }
 }
 
 /// A table for the follower: 32 signals, one cell in eight without a step.

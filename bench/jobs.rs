@@ -35,6 +35,7 @@ pub enum Call {
     Archive,
     List,
     Write,
+    Report,
     Count,
     CountSingly,
     Ends,
@@ -53,6 +54,7 @@ impl Call {
             Call::Archive => "archive",
             Call::List => "list",
             Call::Write => "write",
+            Call::Report => "report",
             Call::Count | Call::CountSingly => "count",
             Call::Ends => "ends",
             Call::Reach => "reach",
@@ -75,14 +77,15 @@ impl Call {
         match self {
             Call::List => 768,
             Call::Write => 65536,
+            Call::Report => 65608,
             _ => 0,
         }
     }
 }
 
 /// One line of the figures: a call and its inputs. Calls take the pairs of tables in turn. A module's text, signals or flags are in `bytes`, a
-/// plan's text is in `plan`; `listing` is what the lister prints of the two, and `room` says how many bytes a call on texts is lent. A search goes
-/// by the signals in `sets`, one set for each state.
+/// plan's text is in `plan`; `printed` is what the lister or the report prints of the two, and `room` says how many bytes a call on texts is lent. A
+/// search goes by the signals in `sets`, one set for each state.
 pub struct Job {
     pub call: Call,
     pub family: String,
@@ -92,7 +95,7 @@ pub struct Job {
     pub bytes: Vec<u8>,
     pub sets: Vec<u32>,
     pub plan: Vec<u8>,
-    pub listing: String,
+    pub printed: String,
     pub names: Vec<String>,
     pub room: usize,
 }
@@ -108,7 +111,7 @@ impl Job {
             bytes: Vec::new(),
             sets: Vec::new(),
             plan: Vec::new(),
-            listing: String::new(),
+            printed: String::new(),
             names: Vec::new(),
             room: call.room(),
         }
@@ -144,10 +147,12 @@ impl Job {
 
     pub fn of_texts(call: Call, family: &str, texts: Texts) -> Job {
         let mut job = Job::of_pairs(call, family, vec![texts.tables]);
-        job.size = texts.module.len();
+        if call != Call::Report {
+            job.size = texts.module.len();
+        }
         job.bytes = texts.module;
         job.plan = texts.plan;
-        job.listing = texts.listing;
+        job.printed = texts.printed;
         job
     }
 
@@ -243,6 +248,20 @@ fn clashes() -> Vec<Job> {
     spellings.into_iter().chain(capitals).collect()
 }
 
+/// Takes reports of the run of document 01, of the same without a sequencer, of the plan that document 01 has for that, and of larger runs.
+fn reports() -> Vec<Job> {
+    let job = |name, texts| Job::of_texts(Call::Report, name, texts);
+    let mut jobs = vec![
+        job("the documents' run", inputs::documents_run()),
+        job("the documents' run, none", inputs::documents_none()),
+        job("document 01's plan without a sequencer", inputs::no_sequencer()),
+    ];
+    for (name, names) in [("4 short names", inputs::short_names()), ("32 long names", inputs::long_names())] {
+        jobs.extend([8, 16, 32].map(|n| job(name, inputs::startups(n, &names))));
+    }
+    jobs
+}
+
 /// Flags counted eight at a time, and one by one as before.
 fn counts() -> Vec<Job> {
     let job = |call, family, length: usize| Job::of_flags(call, family, inputs::flags(SEED + length as u64, length));
@@ -294,6 +313,7 @@ pub fn all(part: &str) -> Vec<Job> {
     jobs.extend(texts(Call::List, &LIST_LIMITS));
     jobs.extend(clashes());
     jobs.extend(texts(Call::Write, &LIMITS));
+    jobs.extend(reports());
     jobs.extend(counts());
     jobs.extend(searches(Call::Ends));
     jobs.extend(made());

@@ -21,6 +21,7 @@ pub trait Library {
     fn read_archive_together(&mut self, m: &[u8], p: &[u8], cm: &mut [u16], cp: &mut [u16]) -> Reply;
     fn list(&mut self, m: &[u8], p: &[u8], cm: &mut [u16], cp: &mut [u16], out: &mut [u8]) -> usize;
     fn write(&mut self, t: &Table, name: &[u8], names: &[&[u8]], out: &mut [u8]) -> Reply;
+    fn report(&mut self, texts: [&[u8]; 2], tables: [&mut [u16]; 2], cells: &mut [u16], flags: &mut [u8], out: &mut [u8]) -> usize;
 }
 
 /// The archive, proved.
@@ -99,6 +100,9 @@ unsafe extern "C" {
     fn harness_write(
         s: usize, i: usize, inputs: u32, outputs: u32, c: *const u16, n: usize,
         name: *const u8, nn: usize, names: *const Part, nnames: usize, out: *mut u8, nout: usize) -> Reply;
+    fn harness_report(
+        m: *const u8, nm: usize, p: *const u8, np: usize, cm: *mut u16, ncm: usize, cp: *mut u16, ncp: usize,
+        cells: *mut u16, ncells: usize, flags: *mut u8, nflags: usize, out: *mut u8, nout: usize) -> usize;
 
     fn plain_judge(t: *const CTable) -> Reply;
     fn plain_fit(a: *const CTable, b: *const CTable, flags: *mut u8, n: usize) -> Reply;
@@ -112,6 +116,8 @@ unsafe extern "C" {
     fn plain_read_archive_together(m: Part, p: Part, cm: Cells, cp: Cells) -> Reply;
     fn plain_list(m: Part, p: Part, cm: Cells, cp: Cells, out: *mut u8, nout: usize) -> usize;
     fn plain_write(t: *const CTable, name: Part, names: *const Part, n: usize, out: *mut u8, nout: usize) -> Reply;
+    fn plain_report(
+        m: Part, p: Part, cm: Cells, cp: Cells, cells: Cells, flags: *mut u8, nflags: usize, out: *mut u8, nout: usize) -> usize;
 }
 
 // Every pointer below comes from a slice and goes with its length, and no slice that is written overlaps another.
@@ -213,6 +219,15 @@ impl Library for Archive {
             )
         }
     }
+
+    fn report(&mut self, [m, p]: [&[u8]; 2], [cm, cp]: [&mut [u16]; 2], cells: &mut [u16], flags: &mut [u8], out: &mut [u8]) -> usize {
+        unsafe {
+            harness_report(
+                m.as_ptr(), m.len(), p.as_ptr(), p.len(), cm.as_mut_ptr(), cm.len(), cp.as_mut_ptr(), cp.len(),
+                cells.as_mut_ptr(), cells.len(), flags.as_mut_ptr(), flags.len(), out.as_mut_ptr(), out.len(),
+            )
+        }
+    }
 }
 
 impl Library for PlainC {
@@ -266,6 +281,11 @@ impl Library for PlainC {
         let parts: [Part; 32] = std::array::from_fn(|i| part(names.get(i).unwrap_or(&&[][..])));
         unsafe { plain_write(&c_table(t), part(name), parts.as_ptr(), names.len(), out.as_mut_ptr(), out.len()) }
     }
+
+    fn report(&mut self, [m, p]: [&[u8]; 2], [cm, cp]: [&mut [u16]; 2], cells: &mut [u16], flags: &mut [u8], out: &mut [u8]) -> usize {
+        let (n, room) = (flags.len(), out.len());
+        unsafe { plain_report(part(m), part(p), lent(cm), lent(cp), lent(cells), flags.as_mut_ptr(), n, out.as_mut_ptr(), room) }
+    }
 }
 
 impl Library for PlainRust {
@@ -315,5 +335,9 @@ impl Library for PlainRust {
 
     fn write(&mut self, t: &Table, name: &[u8], names: &[&[u8]], out: &mut [u8]) -> Reply {
         self.0.write(*t, name, names, out)
+    }
+
+    fn report(&mut self, texts: [&[u8]; 2], tables: [&mut [u16]; 2], cells: &mut [u16], flags: &mut [u8], out: &mut [u8]) -> usize {
+        self.0.report(texts, tables, cells, flags, out)
     }
 }

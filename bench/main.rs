@@ -27,6 +27,8 @@ struct Buffers {
     cells: Vec<u16>,
     others: Vec<u16>,
     bytes: Vec<u8>,
+    made: Vec<u16>,
+    flags: Vec<u8>,
 }
 
 /// A job ready to be run: its names as the writer takes them.
@@ -46,11 +48,18 @@ fn buffers(job: &Job) -> Buffers {
     let (cells, others, bytes) = match job.call {
         Call::Fit | Call::Refine | Call::Reach => (0, 0, job.size),
         Call::Synthesize => (job.size * 32, 0, job.size),
-        Call::Read | Call::Archive | Call::List => (a.cells.len(), b.cells.len(), job.room),
+        Call::Read | Call::Archive | Call::List | Call::Report => (a.cells.len(), b.cells.len(), job.room),
         Call::Write => (0, 0, job.room),
         Call::Judge | Call::Count | Call::CountSingly | Call::Ends | Call::Follow => (0, 0, 0),
     };
-    Buffers { cells: vec![0x707; cells], others: vec![0x707; others], bytes: vec![7; bytes] }
+    let pairs = if job.call == Call::Report { job.size } else { 0 };
+    Buffers {
+        cells: vec![0x707; cells],
+        others: vec![0x707; others],
+        bytes: vec![7; bytes],
+        made: vec![0x707; pairs * 32],
+        flags: vec![7; pairs],
+    }
 }
 
 /// The follower over all signals: the state it ends in, and in place of the line how often it moved. No reply is kept whole: to copy it right
@@ -95,6 +104,13 @@ fn list(l: &mut dyn Library, job: &Job, to: &mut Buffers) -> Reply {
     Reply { value: length, ..Reply::default() }
 }
 
+/// Makes a report, which returns the length of what it prints too.
+fn report(l: &mut dyn Library, job: &Job, to: &mut Buffers) -> Reply {
+    let texts = [&job.bytes[..], &job.plan];
+    let length = l.report(texts, [&mut to.cells, &mut to.others], &mut to.made, &mut to.flags, &mut to.bytes);
+    Reply { value: length, ..Reply::default() }
+}
+
 /// The i-th call.
 fn run(l: &mut dyn Library, r: &Ready, i: usize, to: &mut Buffers) -> Reply {
     let job = r.job;
@@ -109,6 +125,7 @@ fn run(l: &mut dyn Library, r: &Ready, i: usize, to: &mut Buffers) -> Reply {
         Call::Archive => l.read_archive_together(&job.bytes, &job.plan, &mut to.cells, &mut to.others),
         Call::List => list(l, job, to),
         Call::Write => l.write(&a, b"startup", &r.names, &mut to.bytes),
+        Call::Report => report(l, job, to),
         Call::Count => count_all(job, |flags| l.count_kept(flags)),
         Call::CountSingly => count_all(job, |flags| l.count_singly(flags)),
         Call::Ends => Reply { value: l.count_ends(&a, &job.bytes), ..Reply::default() },
@@ -117,9 +134,9 @@ fn run(l: &mut dyn Library, r: &Ready, i: usize, to: &mut Buffers) -> Reply {
     }
 }
 
-/// The refusal number of a call: that of its reply, or the one that the lister printed.
+/// The refusal number of a call: that of its reply, or the one that the lister or the report printed.
 fn refusal_of(job: &Job, reply: &Reply, to: &Buffers) -> u32 {
-    if job.call != Call::List {
+    if !matches!(job.call, Call::List | Call::Report) {
         return reply.number;
     }
     let printed = String::from_utf8_lossy(&to.bytes[..reply.value.min(job.room)]);
@@ -140,16 +157,15 @@ fn agree(ls: &mut Libraries, r: &Ready, i: usize) -> u32 {
         assert!(*to == results[0].1, "buffers differ: {}", r.job.title());
     }
     let (reply, to) = &results[0];
-    let number = refusal_of(r.job, reply, to);
-    if number == 0 {
+    if reply.number == 0 {
         check_outcome(r.job, reply, to);
     }
-    number
+    refusal_of(r.job, reply, to)
 }
 
-/// What is known of the outcome: reading a text gives the table that it was made of, writing the table that text; the lister reads too, and prints
-/// the listing and nothing else; a counter's sequencer has as many kept states as document 000 says, one for each value; of a chain all states are
-/// reached, and the last is its only end.
+/// What is known of the outcome: reading a text gives the table that it was made of, writing the table that text; the lister and the report read
+/// too, and print what is expected and nothing else; a counter's sequencer has as many kept states as document 000 says, one for each value; of a
+/// chain all states are reached, and the last is its only end.
 fn check_outcome(job: &Job, reply: &Reply, to: &Buffers) {
     let kept = to.bytes.iter().filter(|&&flag| flag == 1).count();
     match job.family.as_str() {
@@ -158,9 +174,9 @@ fn check_outcome(job: &Job, reply: &Reply, to: &Buffers) {
         "counter with errors" => assert_eq!(kept, job.size / 2),
         _ => match job.call {
             Call::Read | Call::Archive => check_cells(job, to),
-            Call::List => {
+            Call::List | Call::Report => {
                 check_cells(job, to);
-                check_listing(job, to);
+                check_printed(job, to);
             }
             Call::Write => assert!(to.bytes[..job.size] == job.bytes),
             Call::Ends if job.family == "chain" => assert_eq!(reply.value, 1),
@@ -175,9 +191,9 @@ fn check_cells(job: &Job, to: &Buffers) {
     assert!(to.cells == a.cells && to.others == b.cells);
 }
 
-fn check_listing(job: &Job, to: &Buffers) {
-    let (printed, rest) = to.bytes.split_at(job.listing.len());
-    assert!(printed == job.listing.as_bytes() && rest.iter().all(|&b| b == 7));
+fn check_printed(job: &Job, to: &Buffers) {
+    let (printed, rest) = to.bytes.split_at(job.printed.len());
+    assert!(printed == job.printed.as_bytes() && rest.iter().all(|&b| b == 7));
 }
 
 /// Tries the small inputs; how many calls each refusal number turned away.

@@ -28,7 +28,7 @@ struct cells {
     size_t count;
 };
 
-/* The reply of every call but the counts, the search and the lister, field for field that of the archive. */
+/* The reply of every call but the counts, the search, the lister and the report, field for field that of the archive. */
 struct reply {
     uint32_t number;
     uint32_t table;
@@ -60,5 +60,7 @@ struct reply plain_read_together(struct part m, struct part p, struct cells cm, 
 struct reply plain_read_archive_together(struct part m, struct part p, struct cells cm, struct cells cp);
 size_t plain_list(struct part m, struct part p, struct cells cm, struct cells cp, uint8_t *out, size_t length);
 struct reply plain_write(const struct table *t, struct part name, const struct part *names, size_t count, uint8_t *out, size_t length);
+size_t plain_report(struct part m, struct part p, struct cells cm, struct cells cp, struct cells cells, uint8_t *flags, size_t room, uint8_t *out,
+                    size_t length);
 
 #endif

@@ -6,7 +6,7 @@ use crate::plain::NO_STEP;
 
 pub const NAME: &str = "trial";
 
-const TRIALS: usize = 35_000;
+const TRIALS: usize = 40_000;
 
 /// Every number of flags below this one is counted, from each of as many seeds.
 const FLAGS: usize = 100;
@@ -103,7 +103,7 @@ fn texts(r: &mut Random) -> Texts {
     };
     let (a, module) = inputs::text_table(r.next(), if crowded { 720 } else { 120 }, &names, 0);
     let (b, plan) = inputs::text_table(r.next(), 120, &others, 0);
-    Texts { tables: (a, b), module, plan, listing: String::new() }
+    Texts { tables: (a, b), module, plan, printed: String::new() }
 }
 
 /// Changes a byte, leaves one out, doubles one or turns the case of a letter.
@@ -119,19 +119,62 @@ fn change(r: &mut Random, bytes: &mut Vec<u8>) {
     }
 }
 
-/// Short texts with up to two changes. One lister in four gets so little room that a refusal's line or several clashes may be cut off, though not
-/// a refusal's number.
-fn text_trial(r: &mut Random, call: Call) -> Job {
-    let mut texts = texts(r);
+/// Makes up to two changes.
+fn damage(r: &mut Random, texts: &mut Texts) {
     for _ in 0..r.below(3) {
         let text = if r.below(2) == 0 { &mut texts.module } else { &mut texts.plan };
         change(r, text);
     }
+}
+
+/// Short texts with up to two changes. One lister in four gets so little room that a refusal's line or several clashes may be cut off, though not
+/// a refusal's number.
+fn text_trial(r: &mut Random, call: Call) -> Job {
+    let mut texts = texts(r);
+    damage(r, &mut texts);
     let mut job = Job::of_texts(call, NAME, texts);
     if call == Call::List && r.below(4) == 0 {
         job.room = 13 + r.below(8);
     }
     job
+}
+
+/// Makes texts of two tables, with names for all signals.
+fn texts_of(a: Owned, b: Owned, names: &[String], others: &[String]) -> Texts {
+    let (module, plan) = (inputs::text_of(&a, "module", names), inputs::text_of(&b, "plan", others));
+    Texts { tables: (a, b), module: module.into(), plan: plan.into(), printed: String::new() }
+}
+
+/// Gives the names of a small table's signals, which may clash, and names for the others.
+fn all_names(r: &mut Random) -> Vec<String> {
+    few_names(r).into_iter().chain(inputs::long_names().into_iter().skip(4)).collect()
+}
+
+/// Makes texts of two small tables, with up to two changes. One report in four gets so little room that what it prints may be cut off, though not a
+/// refusal's number; one in eight gets room for any number of pairs.
+fn report_trial(r: &mut Random) -> Job {
+    let a = table(r);
+    let b = partner(r, Call::Synthesize, &a);
+    let names = all_names(r);
+    let others = if r.below(4) == 0 { all_names(r) } else { names.clone() };
+    let mut texts = texts_of(a, b, &names, &others);
+    damage(r, &mut texts);
+    let mut job = Job::of_texts(Call::Report, NAME, texts);
+    if r.below(4) == 0 {
+        job.room = 13 + r.below(200);
+    }
+    if r.below(8) == 0 {
+        job.size = r.below(30);
+    }
+    job
+}
+
+/// Makes reports of the first pair counts that are too large, for the library and for a report, and of a table whose text would be too long.
+fn large_reports(seed: u64) -> [Job; 3] {
+    let names = inputs::long_names();
+    let bare = |states| Owned::new(states, 0, 0);
+    let pairs = [(bare(64), bare(65)), (bare(25), bare(41)), (bare(32), inputs::followed(seed, 32))];
+    pairs.map(|(a, b)| Job::of_texts(Call::Report, NAME, texts_of(a, b, &names, &names)))
 }
 
 /// A small table whose names may clash; one in eight has a name that breaks the rule or none for its last signal, one in four little room.
@@ -211,15 +254,17 @@ fn too_many_pairs() -> Job {
 
 pub fn all(seed: u64) -> impl Iterator<Item = Job> {
     let mut r = Random(seed);
-    let random = (0..TRIALS).map(move |i| match i % 7 {
+    let random = (0..TRIALS).map(move |i| match i % 8 {
         0 => pair_trial(&mut r, Call::Fit),
         1 => pair_trial(&mut r, Call::Refine),
         2 => pair_trial(&mut r, Call::Synthesize),
         3 => text_trial(&mut r, Call::Read),
         4 => text_trial(&mut r, Call::Archive),
         5 => text_trial(&mut r, Call::List),
+        6 => report_trial(&mut r),
         _ => write_trial(&mut r),
     });
     let searches = [Call::Ends, Call::Reach].into_iter().flat_map(move |call| search_trials(seed, call));
-    random.chain(count_trials(seed)).chain(searches).chain(std::iter::once_with(too_many_pairs))
+    let large = std::iter::once_with(too_many_pairs).chain(large_reports(seed));
+    random.chain(count_trials(seed)).chain(searches).chain(large)
 }
