@@ -152,12 +152,6 @@ pub after-none : (s r : List ℕ) (at : ℕ) → length s < at → length r ≤ 
 after-none s [] at h k = sym (drop-of-length-le s {i = at} (omega arith))
 after-none s (x ∷ r) at h k = absurd (omega arith)
 
-pub part-none : (s r : List ℕ) (from to : ℕ) → to ≤ from → r ≡ [] → r ≡ take (to - from) (drop from s)
-part-none s r from to h e = let z : to - from ≡ 0 = omega arith in rw z e
-
-pub part-some : (s u r : List ℕ) (from to : ℕ) → u ≡ drop from s → r ≡ take (to - from) u → r ≡ take (to - from) (drop from s)
-part-some s u r from to e f = f ∙ ap (take (to - from)) e
-
 -- The place of a part that begins k bytes on.
 pub before-place : (place : ℕ × ℕ) → (place .0, 0 + place .1) ≡ place
 before-place place = let e : 0 + place .1 ≡ place .1 = omega arith in ap (λ o. (place .0, o)) e

@@ -1,4 +1,5 @@
 pub mod Bytes
+pub mod Leading
 pub mod NameRule
 pub mod NumberRule
 pub mod Cuts

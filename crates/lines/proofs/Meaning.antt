@@ -13,6 +13,7 @@ use Rattle.text.specs.Fields.{split, upto, same, nameOk, value, numberOk}
 use Rattle.text.specs.Lines.{Entry, table, declaration, step, refused, tableWord, roleWord, stepWord, judged, takesTable, takesDeclaration, takesStep, tableLine, declarationLine, stepLine, parse}
 use Rattle.text.proofs.Split.{upto-le, split-some, split-more, split-one}
 use Rattle.text.proofs.Names.{same-eq}
+use Rattle.lines.proofs.NameRule.{both}
 use Rattle.lines.proofs.NumberRule.{number-fits}
 use Rattle.lines.specs.Located.{afterKind, stepName, located, kindOf}
 use Rattle.lines.specs.declared.Record.the-variants.{Table, Declaration, Step}
@@ -32,10 +33,6 @@ isGood (refused k) = false
 not-refused : (k : ℕ) (e : Entry) → isGood e ≡ true → refused k ≡ e → ⊥
 unfolding isGood
 not-refused k e g q = let z : false ≡ true = ap isGood q ∙ g in let o : _≡_ {A = ℕ} 0 1 = cc in omega arith
-
-both : (a b : Bool) → (a && b) ≡ true → (a ≡ true) × (b ≡ true)
-both true b h = (refl, h)
-both false b h = absurd (let o : _≡_ {A = ℕ} 0 1 = cc in omega arith)
 
 -- An entry that is not refused was judged good.
 judged-good : (a b c : Bool) (e e′ : Entry) → isGood e′ ≡ true → judged a b c e ≡ e′ → (b ≡ true) × (c ≡ true) × (e ≡ e′)

@@ -5,12 +5,12 @@ ghost use lib.ListN.{length, drop};
 ghost use Rattle.text.specs.Fields.{split, upto};
 ghost use Rattle.text.specs.Lines.{roleWord, takesTable, takesDeclaration, takesStep, tableLine, declarationLine, stepLine, parse as entry};
 ghost use Rattle.lines.specs.Located.{kindOf, threeFields, judgement, placed, located, measured, firstLine};
-use quick::Quick;
+use one_pass::Reading;
 use text::Number;
 use text::Place;
 use text::Role;
 
-mod quick;
+mod one_pass;
 mod scan;
 mod tokens;
 
@@ -136,12 +136,12 @@ fn three_fields(s: &[u8]) -> Cut
     if s.len() <= first {
         return Cut::Other;
     }
-    let tail = scan::after(s, first + 1);
-    let width = scan::find(tail, b'\t');
-    if tail.len() <= width {
+    let rest = scan::tail(s, first + 1);
+    let width = scan::find(rest, b'\t');
+    if rest.len() <= width {
         return Cut::Other;
     }
-    let last = scan::after(tail, width + 1);
+    let last = scan::tail(rest, width + 1);
     if scan::find(last, b'\t') < last.len() {
         return Cut::Other;
     }
@@ -183,7 +183,7 @@ fn table_line(rest: &[u8], place: Place) -> Parsed
         takes_table(place),
         name,
         states,
-        scan::after(rest, second + 1),
+        scan::tail(rest, second + 1),
     ) {
         Judged::Good(states, initial) => Parsed::Fields(Record::Table { states, initial }),
         Judged::Bad(number) => Parsed::Refused(number),
@@ -211,13 +211,13 @@ fn step_line(line: &[u8], at: usize, place: Place) -> Parsed
     requires { ⌜ at ≤ length (now line) ⌝ }
     ensures { λ r. ⌜ r ≡ placed (at + upto 9 (drop at (now (line .entry))) + 1) (stepLine place (split 9 (drop at (now (line .entry))))) ⌝ }
 {
-    let rest = scan::after(line, at);
+    let rest = scan::tail(line, at);
     let Cut::Three { first, second } = three_fields(rest) else {
         return Parsed::Refused(14);
     };
     let from = scan::before(rest, first);
     let name = scan::part(rest, first + 1, second);
-    match judge(takes_step(place), name, from, scan::after(rest, second + 1)) {
+    match judge(takes_step(place), name, from, scan::tail(rest, second + 1)) {
         Judged::Good(from, to) => Parsed::Fields(Record::Step {
             from,
             start: at + first + 1,
@@ -236,7 +236,7 @@ fn says(line: &[u8], place: Place) -> Parsed
     if line.len() <= tab {
         return Parsed::Refused(14);
     }
-    let rest = scan::after(line, tab + 1);
+    let rest = scan::tail(line, tab + 1);
     match kind_of(scan::before(line, tab)) {
         Kind::TableLine => table_line(rest, place),
         Kind::DeclarationLine(role) => declaration_line(rest, role, place),
@@ -274,13 +274,13 @@ pub fn parse(s: &[u8], place: Place) -> Line
     if !takes_step(place) {
         return parse_any(s, place);
     }
-    let Quick::Step {
+    let Reading::Step {
         from,
         start,
         end,
         to,
         length,
-    } = quick::step_line(s)
+    } = one_pass::step_line(s)
     else {
         return parse_any(s, place);
     };

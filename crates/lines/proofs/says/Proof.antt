@@ -10,11 +10,11 @@ find-requires c κs = search needs
 returns : tie.Need-returns
 returns c = line-bare _ _ _ (c .before .find .ensures) (omega arith)
 
-add-after : tie.Need-add-after
-add-after c = search needs
+add-tail : tie.Need-add-tail
+add-tail c = search needs
 
-after-requires : tie.Need-after-requires
-after-requires c κs = search needs
+tail-requires : tie.Need-tail-requires
+tail-requires c κs = search needs
 
 before-requires : tie.Need-before-requires
 before-requires c κs = search needs
@@ -49,28 +49,28 @@ enum-told-3 c = search needs
 returns-2 : tie.Need-returns-2
 returns-2 c =
     let d = c .before .before .before .before .before in
-    line-table _ _ _ (d .before .before .find .ensures) (omega arith) _ _ (d .after .ensures .0)
+    line-table _ _ _ (d .before .before .find .ensures) (omega arith) _ _ (d .tail .ensures)
     (c .before .before .before .before .before2 .ensures .0) _ (c .before .before .before .kind-of .ensures) (c .before .enum-told .given .1) _
     (c .table-line .ensures)
 
 returns-3 : tie.Need-returns-3
 returns-3 c =
     let d = c .before .before .before .before .before .before in
-    line-declaration _ _ _ (d .before .before .find .ensures) (omega arith) _ _ (d .after .ensures .0)
+    line-declaration _ _ _ (d .before .before .find .ensures) (omega arith) _ _ (d .tail .ensures)
     (c .before .before .before .before .before .before2 .ensures .0) _ (c .before .before .before .before .kind-of .ensures) _
     (c .before .before .role .given .1) _ (c .declaration-line .ensures)
 
 returns-4 : tie.Need-returns-4
 returns-4 c =
     let d = c .before .before .before .before .before in
-    line-step _ _ _ (d .before .before .find .ensures) (omega arith) _ _ (d .after .ensures .0)
+    line-step _ _ _ (d .before .before .find .ensures) (omega arith) _ _ (d .tail .ensures)
     (c .before .before .before .before .before2 .ensures .0) _ (c .before .before .before .kind-of .ensures) (c .before .enum-told2 .given .1)
     _ (c .step-line .ensures)
 
 returns-5 : tie.Need-returns-5
 returns-5 c =
     let d = c .before .before .before .before in
-    line-unknown _ _ _ (d .before .before .find .ensures) (omega arith) _ _ (d .after .ensures .0)
+    line-unknown _ _ _ (d .before .before .find .ensures) (omega arith) _ _ (d .tail .ensures)
     (c .before .before .before .before2 .ensures .0) _ (c .before .before .kind-of .ensures) (c .enum-told3 .given .1)
 
 pub says-spec : {M : Type 1} → statement M
@@ -79,8 +79,8 @@ says-spec =
     (tie.spec
     find-requires
     returns
-    add-after
-    after-requires
+    add-tail
+    tail-requires
     before-requires
     kind-of-requires
     enum-told

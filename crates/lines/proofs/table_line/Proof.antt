@@ -30,16 +30,16 @@ add-part : tie.Need-add-part
 add-part c = let t = cut (c .before) in omega arith
 
 part-requires : tie.Need-part-requires
-part-requires c κs = search needs
+part-requires c κs = let t = cut (c .before) in (omega arith, omega arith)
 
 takes-table-requires : tie.Need-takes-table-requires
 takes-table-requires c κs = search needs
 
-add-after : tie.Need-add-after
-add-after c = let t = cut (c .before .before .before) in omega arith
+add-tail : tie.Need-add-tail
+add-tail c = let t = cut (c .before .before .before) in omega arith
 
-after-requires : tie.Need-after-requires
-after-requires c κs = search needs
+tail-requires : tie.Need-tail-requires
+tail-requires c κs = let t = cut (c .before .before .before) in omega arith
 
 judge-requires : tie.Need-judge-requires
 judge-requires c κs = search needs
@@ -55,7 +55,7 @@ returns-2 c =
     let j = c .before .before .before in
     let k = j .before .before .before .before .before in
     table-good _ _ _ (k .before .before .before .three-fields .ensures) _ _ (k .before .first .given .1) _ _ _
-    (j .before .before .before .before .before2 .ensures .0) (j .before .before .before .part .ensures .0) (j .before .after .ensures .0) _
+    (j .before .before .before .before .before2 .ensures .0) (j .before .before .before .part .ensures) (j .before .tail .ensures) _
     (j .before .before .takes-table .ensures) _ (j .judge .ensures) _ _ (c .before .states .given .1)
 
 returns-3 : tie.Need-returns-3
@@ -63,7 +63,7 @@ returns-3 c =
     let j = c .before .before .before in
     let k = j .before .before .before .before .before in
     table-bad _ _ _ (k .before .before .before .three-fields .ensures) _ _ (k .before .first .given .1) _ _ _
-    (j .before .before .before .before .before2 .ensures .0) (j .before .before .before .part .ensures .0) (j .before .after .ensures .0) _
+    (j .before .before .before .before .before2 .ensures .0) (j .before .before .before .part .ensures) (j .before .tail .ensures) _
     (j .before .before .takes-table .ensures) _ (j .judge .ensures) _ (c .before .number .given .1)
 
 pub table-line-spec : {M : Type 1} → statement M
@@ -78,8 +78,8 @@ table-line-spec =
     add-part
     part-requires
     takes-table-requires
-    add-after
-    after-requires
+    add-tail
+    tail-requires
     judge-requires
     enum-known-states
     enum-known-number
