@@ -1,7 +1,7 @@
 // Takes a line of table text apart (document 01, "Table text"): gives the fields of its record, or the number of its refusal.
 ghost use mathlib.Core.Path.{_≡_};
-ghost use Prim.Native.Nat.{_+_, _≤_};
-ghost use lib.ListN.{length, drop};
+ghost use Prim.Native.Nat.{ℕ, _+_, _<_};
+ghost use lib.ListN.{length};
 ghost use Rattle.text.specs.Fields.{split, upto};
 ghost use Rattle.text.specs.Lines.{roleWord, takesTable, takesDeclaration, takesStep, tableLine, declarationLine, stepLine, parse as entry};
 ghost use Rattle.lines.specs.Located.{kindOf, threeFields, judgement, placed, located, measured, firstLine};
@@ -172,7 +172,7 @@ fn judge(in_place: bool, name: &[u8], x: &[u8], y: &[u8]) -> Judged
 
 // What follows the kind of a `table` line.
 fn table_line(rest: &[u8], place: Place) -> Parsed
-    ensures { λ r. ⌜ r ≡ placed 0 (tableLine place (split 9 (now (rest .entry)))) ⌝ }
+    ensures { λ r. ⌜ ((at : ℕ) → r ≡ placed at (tableLine place (split 9 (now (rest .entry))))) ⌝ }
 {
     let Cut::Three { first, second } = three_fields(rest) else {
         return Parsed::Refused(14);
@@ -192,7 +192,7 @@ fn table_line(rest: &[u8], place: Place) -> Parsed
 
 // What follows the kind of an `in` or `out` line.
 fn declaration_line(rest: &[u8], role: Role, place: Place) -> Parsed
-    ensures { λ r. ⌜ r ≡ placed 0 (declarationLine role place (split 9 (now (rest .entry)))) ⌝ }
+    ensures { λ r. ⌜ ((at : ℕ) → r ≡ placed at (declarationLine role place (split 9 (now (rest .entry))))) ⌝ }
 {
     if scan::find(rest, b'\t') < rest.len() {
         return Parsed::Refused(14);
@@ -206,12 +206,11 @@ fn declaration_line(rest: &[u8], role: Role, place: Place) -> Parsed
     Parsed::Fields(Record::Declaration(role))
 }
 
-// What follows the kind of a `step` line, from the byte `at` of the line on.
-fn step_line(line: &[u8], at: usize, place: Place) -> Parsed
-    requires { ⌜ at ≤ length (now line) ⌝ }
-    ensures { λ r. ⌜ r ≡ placed (at + upto 9 (drop at (now (line .entry))) + 1) (stepLine place (split 9 (drop at (now (line .entry))))) ⌝ }
+// What follows the kind of a `step` line, and begins at its byte `at`.
+fn step_line(rest: &[u8], at: usize, place: Place) -> Parsed
+    requires { ⌜ at + length (now rest) < 18446744073709551616 ⌝ }
+    ensures { λ r. ⌜ r ≡ placed (at + upto 9 (now (rest .entry)) + 1) (stepLine place (split 9 (now (rest .entry)))) ⌝ }
 {
-    let rest = scan::tail(line, at);
     let Cut::Three { first, second } = three_fields(rest) else {
         return Parsed::Refused(14);
     };
@@ -240,7 +239,7 @@ fn says(line: &[u8], place: Place) -> Parsed
     match kind_of(scan::before(line, tab)) {
         Kind::TableLine => table_line(rest, place),
         Kind::DeclarationLine(role) => declaration_line(rest, role, place),
-        Kind::StepLine => step_line(line, tab + 1, place),
+        Kind::StepLine => step_line(rest, tab + 1, place),
         Kind::Unknown => Parsed::Refused(14),
     }
 }

@@ -8,7 +8,7 @@ find-requires : tie.Need-find-requires
 find-requires c κs = search needs
 
 returns : tie.Need-returns
-returns c = line-bare _ _ _ (c .before .find .ensures) (omega arith)
+returns c = search (line-bare, needs)
 
 add-tail : tie.Need-add-tail
 add-tail c = search needs
@@ -47,31 +47,16 @@ enum-told-3 : tie.Need-enum-told-3
 enum-told-3 c = search needs
 
 returns-2 : tie.Need-returns-2
-returns-2 c =
-    let d = c .before .before .before .before .before in
-    line-table _ _ _ (d .before .before .find .ensures) (omega arith) _ _ (d .tail .ensures)
-    (c .before .before .before .before .before2 .ensures .0) _ (c .before .before .before .kind-of .ensures) (c .before .enum-told .given .1) _
-    (c .table-line .ensures)
+returns-2 c = search (line-table, needs)
 
 returns-3 : tie.Need-returns-3
-returns-3 c =
-    let d = c .before .before .before .before .before .before in
-    line-declaration _ _ _ (d .before .before .find .ensures) (omega arith) _ _ (d .tail .ensures)
-    (c .before .before .before .before .before .before2 .ensures .0) _ (c .before .before .before .before .kind-of .ensures) _
-    (c .before .before .role .given .1) _ (c .declaration-line .ensures)
+returns-3 c = search (line-declaration, needs)
 
 returns-4 : tie.Need-returns-4
-returns-4 c =
-    let d = c .before .before .before .before .before in
-    line-step _ _ _ (d .before .before .find .ensures) (omega arith) _ _ (d .tail .ensures)
-    (c .before .before .before .before .before2 .ensures .0) _ (c .before .before .before .kind-of .ensures) (c .before .enum-told2 .given .1)
-    _ (c .step-line .ensures)
+returns-4 c = search (line-step, needs)
 
 returns-5 : tie.Need-returns-5
-returns-5 c =
-    let d = c .before .before .before .before in
-    line-unknown _ _ _ (d .before .before .find .ensures) (omega arith) _ _ (d .tail .ensures)
-    (c .before .before .before .before2 .ensures .0) _ (c .before .before .kind-of .ensures) (c .enum-told3 .given .1)
+returns-5 c = search (line-unknown, needs)
 
 pub says-spec : {M : Type 1} → statement M
 says-spec =

@@ -21,7 +21,7 @@ enum-told : tie.Need-enum-told
 enum-told c = search needs
 
 returns : tie.Need-returns
-returns c = table-other _ _ _ (c .before .before .three-fields .ensures) (c .enum-told .given .1)
+returns c = search (table-other, needs)
 
 before-requires : tie.Need-before-requires
 before-requires c κs = search needs
@@ -51,20 +51,10 @@ enum-known-number : tie.Need-enum-known-number
 enum-known-number c = search needs
 
 returns-2 : tie.Need-returns-2
-returns-2 c =
-    let j = c .before .before .before in
-    let k = j .before .before .before .before .before in
-    table-good _ _ _ (k .before .before .before .three-fields .ensures) _ _ (k .before .first .given .1) _ _ _
-    (j .before .before .before .before .before2 .ensures .0) (j .before .before .before .part .ensures) (j .before .tail .ensures) _
-    (j .before .before .takes-table .ensures) _ (j .judge .ensures) _ _ (c .before .states .given .1)
+returns-2 c = search (table-good, needs)
 
 returns-3 : tie.Need-returns-3
-returns-3 c =
-    let j = c .before .before .before in
-    let k = j .before .before .before .before .before in
-    table-bad _ _ _ (k .before .before .before .three-fields .ensures) _ _ (k .before .first .given .1) _ _ _
-    (j .before .before .before .before .before2 .ensures .0) (j .before .before .before .part .ensures) (j .before .tail .ensures) _
-    (j .before .before .takes-table .ensures) _ (j .judge .ensures) _ (c .before .number .given .1)
+returns-3 c = search (table-bad, needs)
 
 pub table-line-spec : {M : Type 1} → statement M
 table-line-spec =

@@ -8,7 +8,7 @@ find-requires : tie.Need-find-requires
 find-requires c κs = search needs
 
 returns : tie.Need-returns
-returns c = cut-one _ _ (c .before .find .ensures) (omega arith)
+returns c = search (cut-one, needs)
 
 add-tail : tie.Need-add-tail
 add-tail c = search needs
@@ -20,9 +20,7 @@ find-requires-2 : tie.Need-find-requires-2
 find-requires-2 c κs = search needs
 
 returns-2 : tie.Need-returns-2
-returns-2 c =
-    cut-two _ _ (c .before .before .before .before .find .ensures) (omega arith) _ (c .before .before .tail .ensures) _
-    (c .before .find2 .ensures) (omega arith)
+returns-2 c = search (cut-two, needs)
 
 add-tail-2 : tie.Need-add-tail-2
 add-tail-2 c = search needs
@@ -34,11 +32,7 @@ find-requires-3 : tie.Need-find-requires-3
 find-requires-3 c κs = search needs
 
 returns-3 : tie.Need-returns-3
-returns-3 c =
-    let d = c .before .before .before in
-    cut-more _ _ (d .before .before .before .before .find .ensures) (omega arith) _ (d .before .before .tail .ensures) _
-    (d .before .find2 .ensures)
-    (omega arith) _ (c .before .before .tail2 .ensures) _ (c .before .find3 .ensures) (omega arith)
+returns-3 c = search (cut-more, needs)
 
 add-t6 : tie.Need-add-t6
 add-t6 c = search needs
