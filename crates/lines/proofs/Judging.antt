@@ -1,4 +1,4 @@
--- Laws for `judge` and for what follows the kind of a line, by what the code knows at each return.
+-- Laws of the judgement on a name and two numbers, and of what follows the kind of a line.
 use mathlib.Core.Path.{_≡_, refl, sym, ap, _∙_}
 use mathlib.Core.Bool.{Bool, true, false, not, _&&_, cond, and-false}
 use mathlib.Core.List.{List, [], _∷_}
@@ -24,7 +24,7 @@ use Rattle.lines.specs.declared.Cut.{Cut}
 use Rattle.lines.specs.declared.Cut.the-variants.{Three, Other}
 use Rattle.lines.specs.declared.Judged.{Judged}
 use Rattle.lines.specs.declared.Judged.the-variants.{Good, Bad}
-use Rattle.lines.proofs.Cuts.{not-three, ThreeAt, three-at}
+use Rattle.lines.proofs.ThreeFields.{not-three, ThreeAt, three-at}
 
 -- ---- judge
 

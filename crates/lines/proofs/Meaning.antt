@@ -21,7 +21,7 @@ use Rattle.lines.specs.declared.Parsed.{Parsed}
 use Rattle.lines.specs.declared.Parsed.the-variants.{Fields, Refused}
 use Rattle.lines.specs.declared.Kind.{Kind}
 use Rattle.lines.specs.declared.Kind.the-variants.{TableLine, DeclarationLine, StepLine, Unknown}
-use Rattle.lines.proofs.Parsing.{onKind, by-kind}
+use Rattle.lines.proofs.ByKind.{onKind, by-kind}
 
 -- ---- the word of a declaration
 

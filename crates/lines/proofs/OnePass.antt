@@ -54,7 +54,7 @@ upto-join b (x ∷ s) t e = go (eqb x b) (upto-join b s t) e
     go true ih e = absurd (omega arith)
     go false ih e = ap suc (ih (omega arith))
 
--- With the fields f, n and t.
+-- A step line with the fields f, n and t, without its LF.
 stepText : List ℕ → List ℕ → List ℕ → List ℕ
 stepText f n t = stepWord ++ 9 ∷ (f ++ 9 ∷ (n ++ 9 ∷ t))
 
@@ -109,7 +109,7 @@ module _ (s k : List ℕ) (kind : k ≡ take 5 s) (r : Bool) (e : r ≡ same k (
   pub word-long : 5 ≤ length s
   word-long = omega (arith, length-take 5 s, ap length word)
 
-  -- Its fields stand behind.
+  -- The fields of s stand behind the word.
   module _ (fields : List ℕ) (u : fields ≡ drop 5 s) (from a : ℕ) (first : NumberBefore 9 fields from a) (named : List ℕ)
       (v : named ≡ drop (a + 1) fields) (w : ℕ) (second : NameBefore 9 named w) (last : List ℕ) (x : last ≡ drop (w + 1) named)
       (to n : ℕ) (third : NumberBefore 10 last to n) where

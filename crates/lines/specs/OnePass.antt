@@ -19,6 +19,7 @@ pub record StepFirst (s : List ℕ) (from start end to n : ℕ) : Type 0 where
   pub within : n < length s
   pub step : (p : Place) → takesStep p ≡ true → Fields (StepRecord from start end to) ≡ located (take n s) (parse p (take n s))
 
+-- What the reply of the one pass says of s; `Other` says nothing.
 abbrev pub stepRead : List ℕ → Reading → Type 0
 stepRead s (Step from start end to n) = StepFirst s from start end to n
 stepRead s Other = Unit {0}

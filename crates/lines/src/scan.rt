@@ -1,5 +1,5 @@
-// Finds bytes in table text, compares parts of it and cuts them out (document 01, "Table text"). The contract of a part that is handed back gives
-// its bytes and its place in memory, of an empty part too.
+// Finds bytes in table text, compares parts of it and cuts them out (document 01, "Table text"). The contracts of the parts that other
+// crates ask for give their bytes and their places in memory, of an empty part too.
 ghost use mathlib.Core.Path.{_≡_};
 ghost use Prim.Native.Nat.{_-_, _≤_};
 ghost use lib.Dec.{eqb};
@@ -43,7 +43,7 @@ fn spell(spelling: Spelling, x: u8) -> u8
     }
 }
 
-// Whether two bytes are the same in a spelling. Most pairs differ, and the first test is the shorter one.
+// Tells whether two bytes are the same in a spelling. Most pairs differ, and the first test is the shorter one.
 fn agree(spelling: Spelling, x: u8, y: u8) -> bool
     ensures { λ r. ⌜ r ≡ eqb (spelled spelling x) (spelled spelling y) ⌝ }
 {
@@ -102,12 +102,12 @@ pub fn after<'a>(s: &'a [u8], at: usize) -> &'a [u8]
     &s[at..]
 }
 
-// Returns the part of s from the byte `at` on.
-pub fn tail<'a>(s: &'a [u8], at: usize) -> &'a [u8]
-    requires { ⌜ at ≤ length (now s) ⌝ }
-    ensures { λ r. ⌜ now r ≡ drop at (now (s .entry)) ⌝ }
+// Returns the part of s from the byte `from` on.
+pub fn tail<'a>(s: &'a [u8], from: usize) -> &'a [u8]
+    requires { ⌜ from ≤ length (now s) ⌝ }
+    ensures { λ r. ⌜ now r ≡ drop from (now (s .entry)) ⌝ }
 {
-    &s[at..]
+    &s[from..]
 }
 
 // Returns the part of s from the byte `from` on and before the byte `to`.

@@ -5,18 +5,20 @@ ghost use Rattle.text.specs.Fields.{nameByte, nameOk, number as numberOf};
 ghost use Rattle.lines.specs.Leading.{nameWidth, leadingNumber, Digits};
 use text::Number;
 
-// The number that a text begins with and how many digits it has, or `Missing`.
+// The number that a text begins with and how many digits it has; `Missing` if no number stands there.
 pub enum Leading {
     Number { value: usize, width: usize },
     Missing,
 }
 
+// Widens a byte.
 fn wide(x: u8) -> usize
     ensures { λ r. ⌜ r ≡ x ⌝ }
 {
     x as usize
 }
 
+// Returns the lesser of two numbers.
 fn least(a: usize, b: usize) -> usize
     ensures { λ r. ⌜ r ≡ min a b ⌝ }
 {

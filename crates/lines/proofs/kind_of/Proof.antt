@@ -1,4 +1,4 @@
-use Rattle.lines.proofs.Parsing.{kind-table, kind-in, kind-out, kind-step, kind-none}
+use Rattle.lines.proofs.ByKind.{kind-table, kind-in, kind-out, kind-step, kind-none}
 use borrow.Author.Needs.{needs}
 use Rattle.lines.proofs.kind_of.Statement.{statement}
 use Rattle.lines.proofs.kind_of.Tie as tie

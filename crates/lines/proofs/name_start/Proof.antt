@@ -1,4 +1,4 @@
-use Rattle.lines.proofs.Parsing.{start-in, start-out}
+use Rattle.lines.proofs.ByKind.{start-in, start-out}
 use borrow.Author.Needs.{needs}
 use Rattle.lines.proofs.name_start.Statement.{statement}
 use Rattle.lines.proofs.name_start.Tie as tie

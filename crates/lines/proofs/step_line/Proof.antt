@@ -1,6 +1,6 @@
 use native.Mathlib.Omega.{arith}
 use denote.Ref.{now}
-use Rattle.lines.proofs.Cuts.{ThreeAt, three-at}
+use Rattle.lines.proofs.ThreeFields.{ThreeAt, three-at}
 use Rattle.lines.proofs.Judging.{step-other, step-good, step-bad}
 use borrow.Author.Needs.{needs}
 use Rattle.lines.proofs.step_line.Statement.{statement}

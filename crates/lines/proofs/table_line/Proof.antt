@@ -1,6 +1,6 @@
 use native.Mathlib.Omega.{arith}
 use denote.Ref.{now}
-use Rattle.lines.proofs.Cuts.{ThreeAt, three-at}
+use Rattle.lines.proofs.ThreeFields.{ThreeAt, three-at}
 use Rattle.lines.proofs.Judging.{table-other, table-good, table-bad}
 use borrow.Author.Needs.{needs}
 use Rattle.lines.proofs.table_line.Statement.{statement}

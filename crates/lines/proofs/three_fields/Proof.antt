@@ -1,5 +1,5 @@
 use native.Mathlib.Omega.{arith}
-use Rattle.lines.proofs.Cuts.{cut-one, cut-two, cut-more, cut-three}
+use Rattle.lines.proofs.ThreeFields.{cut-one, cut-two, cut-more, cut-three}
 use borrow.Author.Needs.{needs}
 use Rattle.lines.proofs.three_fields.Statement.{statement}
 use Rattle.lines.proofs.three_fields.Tie as tie

@@ -14,7 +14,7 @@ part-result-end : tie.Need-part-result-end
 part-result-end c = search needs
 
 returns : tie.Need-returns
-returns c = let a = c .before .args in part-to-end (now (a .s)) (a .at)
+returns c = let a = c .before .args in part-to-end (now (a .s)) (a .from)
 
 pub tail-spec : {M : Type 1} → statement M
 tail-spec = tie.close (tie.spec sub-result part-result-start part-result-end returns)

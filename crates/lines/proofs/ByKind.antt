@@ -1,4 +1,4 @@
--- Laws for `kind_of` and `says`, by what the code knows at each return.
+-- Laws of the kinds of line, and of a line taken apart by its kind.
 use mathlib.Core.Path.{_≡_, refl, sym, ap, _∙_}
 use mathlib.Core.Bool.{Bool, true, false, cond}
 use mathlib.Core.List.{List, [], _∷_}
@@ -71,7 +71,7 @@ by-kind p k fs = go (same k tableWord) (same k (roleWord Input)) (same k (roleWo
     go false false false true = refl
     go false false false false = refl
 
--- ---- says
+-- ---- a line
 
 module _ (l : List ℕ) (p : Place) (tab : ℕ) (e : tab ≡ upto 9 l) where
   pub line-bare : length l ≤ tab → Refused 14 ≡ located l (parse p l)

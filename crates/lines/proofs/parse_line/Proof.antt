@@ -1,8 +1,8 @@
 use native.Mathlib.Omega.{arith}
-use Rattle.lines.proofs.Parsing.{line-bare, line-table, line-declaration, line-step, line-unknown}
+use Rattle.lines.proofs.ByKind.{line-bare, line-table, line-declaration, line-step, line-unknown}
 use borrow.Author.Needs.{needs}
-use Rattle.lines.proofs.says.Statement.{statement}
-use Rattle.lines.proofs.says.Tie as tie
+use Rattle.lines.proofs.parse_line.Statement.{statement}
+use Rattle.lines.proofs.parse_line.Tie as tie
 
 find-requires : tie.Need-find-requires
 find-requires c κs = search needs
@@ -58,8 +58,8 @@ returns-4 c = search (line-step, needs)
 returns-5 : tie.Need-returns-5
 returns-5 c = search (line-unknown, needs)
 
-pub says-spec : {M : Type 1} → statement M
-says-spec =
+pub parse-line-spec : {M : Type 1} → statement M
+parse-line-spec =
     tie.close
     (tie.spec
     find-requires
