@@ -4,7 +4,7 @@ use mathlib.Core.Bool.{Bool, true, false, _&&_, cond}
 use mathlib.Core.List.{List, [], _∷_}
 use Prim.Native.Nat.{ℕ, _+_, _≤_, _<_}
 use native.Mathlib.Omega.{arith}
-use lib.ListN.{length, take, drop, getD, length-take, drop-of-length-le}
+use lib.ListN.{length, take, drop, getD, drop-of-length-le}
 use lib.Seq.{getD-take}
 use Rattle.text.specs.Fields.{all}
 use Rattle.lines.specs.Leading.{leading}
@@ -29,9 +29,6 @@ module _ (f : ℕ → Bool) where
           → take (length (cond b (x ∷ leading f s) [])) (x ∷ s) ≡ cond b (x ∷ leading f s) []
       go true h = ap (λ (l : List ℕ). x ∷ l) h
       go false h = refl
-
-  pub leading-le : (s : List ℕ) → length (leading f s) ≤ length s
-  leading-le s = omega (arith, length-take (length (leading f s)) s, ap length (leading-take s))
 
   pub leading-first : (s : List ℕ) → 1 ≤ length (leading f s) → getD (leading f s) 0 0 ≡ getD s 0 0
   leading-first s h = sym (ap (λ (l : List ℕ). getD l 0 0) (leading-take s)) ∙ getD-take (length (leading f s)) s 0 0 h

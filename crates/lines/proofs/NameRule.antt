@@ -1,6 +1,6 @@
 -- Laws of the name rule: of a byte, of the name that a text begins with, of a whole field.
-use mathlib.Core.Path.{_≡_, refl, sym, ap, subst, _∙_}
-use mathlib.Core.Bool.{Bool, true, false, not, _&&_, _||_, cond, or-false}
+use mathlib.Core.Path.{_≡_, refl, sym, ap, _∙_}
+use mathlib.Core.Bool.{Bool, true, false, not, _&&_, _||_, cond, and-true, and-false, or-false}
 use mathlib.Core.List.{List}
 use Prim.Native.Nat.{ℕ, zero, suc, _+_, _≤_, _<_, min}
 use native.Mathlib.Omega.{arith}
@@ -10,7 +10,7 @@ use lib.Seq.{take-all}
 use borrow.Author.Tests.{ne-eqb, eq-eqb, le-leb, lt-leb, leb-true, not-true, not-false}
 use Rattle.text.specs.Fields.{all, nameByte, nameOk}
 use Rattle.lines.specs.Leading.{leading, nameWidth}
-use Rattle.lines.proofs.Leading.{leading-all, leading-take, leading-le, leading-whole, leading-on, leading-stop, leading-end}
+use Rattle.lines.proofs.Leading.{leading-all, leading-take, leading-whole, leading-on, leading-stop, leading-end}
 
 -- ---- a byte
 
@@ -19,57 +19,45 @@ module _ (x : ℕ) where
   unfolding nameByte
   meaning = refl
 
-  pub byte-digit : 48 ≤ x → x ≤ 57 → true ≡ nameByte x
-  byte-digit h k = simp (meaning, le-leb 48 x h, le-leb x 57 k)
-
-  pub byte-upper : 65 ≤ x → x ≤ 90 → true ≡ nameByte x
-  byte-upper h k = simp (meaning, le-leb 48 x (omega arith), lt-leb x 57 (omega arith), le-leb 65 x h, le-leb x 90 k)
-
   pub byte-small : 97 ≤ x → leb x 122 ≡ nameByte x
   byte-small h =
       simp (
         meaning,
-        le-leb 48 x (omega arith),
         lt-leb x 57 (omega arith),
-        le-leb 65 x (omega arith),
         lt-leb x 90 (omega arith),
         le-leb 97 x h,
         ne-eqb x 95 (omega arith),
+        and-false,
         or-false,
       )
 
-  pub byte-underscore : x ≡ 95 → true ≡ nameByte x
-  unfolding nameByte
-  byte-underscore h = ap nameByte (sym h)
-
-  pub byte-low : x < 48 → false ≡ nameByte x
-  byte-low h =
-      simp (meaning, lt-leb 48 x h, lt-leb 65 x (omega arith), lt-leb 97 x (omega arith), ne-eqb x 95 (omega arith))
-
-  -- Between the digits and the capitals.
-  pub byte-mid : 57 < x → x < 65 → false ≡ nameByte x
-  byte-mid g h =
+  pub byte-digit : x ≤ 57 → leb 48 x ≡ nameByte x
+  byte-digit h =
       simp (
         meaning,
-        le-leb 48 x (omega arith),
-        lt-leb x 57 g,
-        lt-leb 65 x h,
+        le-leb x 57 h,
+        lt-leb 65 x (omega arith),
         lt-leb 97 x (omega arith),
         ne-eqb x 95 (omega arith),
+        and-true,
+        or-false,
       )
 
-  -- Between the capitals and the small letters.
-  pub byte-gap : 90 < x → x < 97 → (x ≡ 95 → ⊥) → false ≡ nameByte x
-  byte-gap g h n =
+  pub byte-capital : 57 < x → x ≤ 90 → leb 65 x ≡ nameByte x
+  byte-capital g h =
       simp (
         meaning,
-        le-leb 48 x (omega arith),
-        lt-leb x 57 (omega arith),
-        le-leb 65 x (omega arith),
-        lt-leb x 90 g,
-        lt-leb 97 x h,
-        ne-eqb x 95 n,
+        lt-leb x 57 g,
+        le-leb x 90 h,
+        lt-leb 97 x (omega arith),
+        ne-eqb x 95 (omega arith),
+        and-true,
+        and-false,
+        or-false,
       )
+
+  pub byte-underscore : 90 < x → x < 97 → eqb x 95 ≡ nameByte x
+  byte-underscore g h = simp (meaning, lt-leb x 57 (omega arith), lt-leb x 90 g, lt-leb 97 x h, and-false)
 
 -- ---- a name
 

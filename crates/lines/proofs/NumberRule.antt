@@ -7,7 +7,7 @@ use native.Mathlib.Omega.{arith}
 use lib.Dec.{eqb, leb}
 use lib.ListN.{length, take, drop, getD}
 use lib.Seq.{take-all}
-use borrow.Author.Tests.{eq-eqb, ne-eqb, le-leb, lt-leb, leb-true}
+use borrow.Author.Tests.{ne-eqb, le-leb, lt-leb, leb-true}
 use Rattle.text.specs.declared.Number.{Number}
 use Rattle.text.specs.declared.Number.the-variants.{Value, Bad}
 use Rattle.text.specs.Fields.{all, digitByte, valueFrom, value, numberOk, number}
@@ -179,21 +179,26 @@ module _ (s : List ℕ) (r : Leading) (e : r ≡ leadingNumber s) where
 
 -- ---- what the reply for a field says
 
+isValue : Number → Bool
+isValue (Value v) = true
+isValue Bad = false
+
 module _ (s : List ℕ) (r : Number) (e : r ≡ number s) where
-  replied : (b : Bool) → numberOk s ≡ b → r ≡ cond b (Value (value s)) Bad
-  unfolding number
-  replied b f = e ∙ rw f
+  keeps : numberOk s ≡ isValue r
+  unfolding number isValue
+  keeps = go (numberOk s) ∙ ap isValue (sym e)
+    where
+      go : (b : Bool) → b ≡ isValue (cond b (Value (value s)) Bad)
+      go true = refl
+      go false = refl
 
   pub reply-value : (v : ℕ) → r ≡ Value v → (numberOk s ≡ true) × (value s ≡ v)
-  reply-value v f = go (numberOk s) refl
-    where
-      go : (b : Bool) → numberOk s ≡ b → (b ≡ true) × (value s ≡ v)
-      go true g = let q : Value (value s) ≡ Value v = sym (replied true g) ∙ f in (refl, cc)
-      go false g = let q : Bad ≡ Value v = sym (replied false g) ∙ f in absurd (let o : _≡_ {A = ℕ} 0 1 = cc in omega arith)
+  unfolding number isValue
+  reply-value v f =
+      let g : numberOk s ≡ true = keeps ∙ ap isValue f in
+      let q : Value (value s) ≡ Value v = sym (e ∙ rw g) ∙ f in
+      (g, cc)
 
   pub reply-bad : r ≡ Bad → numberOk s ≡ false
-  reply-bad f = go (numberOk s) refl
-    where
-      go : (b : Bool) → numberOk s ≡ b → b ≡ false
-      go true g = let q : Value (value s) ≡ Bad = sym (replied true g) ∙ f in absurd (let o : _≡_ {A = ℕ} 0 1 = cc in omega arith)
-      go false g = refl
+  unfolding isValue
+  reply-bad f = keeps ∙ ap isValue f

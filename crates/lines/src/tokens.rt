@@ -28,20 +28,21 @@ fn least(a: usize, b: usize) -> usize
     b
 }
 
-// Tells whether a byte may stand in a name: an ASCII letter, a digit or an underscore. Small letters, the most frequent, have a test of their own:
-// the compiler tests all cases of a `match` together.
+// Tells whether a byte may stand in a name: an ASCII letter, a digit or an underscore. Small letters, the most frequent, are told by the first two
+// tests; the compiler would make the cases of a `match` one test of all.
 fn is_name_byte(x: u8) -> bool
     ensures { λ r. ⌜ r ≡ nameByte x ⌝ }
 {
     if b'a' <= x {
         return x <= b'z';
     }
-    match x {
-        b'0'..=b'9' => true,
-        b'A'..=b'Z' => true,
-        b'_' => true,
-        _ => false,
+    if x <= b'9' {
+        return b'0' <= x;
     }
+    if x <= b'Z' {
+        return b'A' <= x;
+    }
+    x == b'_'
 }
 
 // Counts the bytes of the name that s begins with: all bytes before the first that may not stand in a name, if they are 1 to 16; else gives 0. Looks

@@ -1,4 +1,3 @@
-use native.Mathlib.Omega.{arith}
 use Rattle.lines.proofs.Judging.{declaration-more, declaration-place, declaration-name, declaration-good}
 use borrow.Author.Needs.{needs}
 use Rattle.lines.proofs.declaration_line.Statement.{statement}

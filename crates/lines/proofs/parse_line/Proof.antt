@@ -1,4 +1,3 @@
-use native.Mathlib.Omega.{arith}
 use Rattle.lines.proofs.ByKind.{line-bare, line-table, line-declaration, line-step, line-unknown}
 use borrow.Author.Needs.{needs}
 use Rattle.lines.proofs.parse_line.Statement.{statement}

@@ -1,5 +1,3 @@
-use native.Mathlib.Omega.{arith}
-use denote.Ref.{now, ptr}
 use Rattle.lines.proofs.Bytes.{before-all, before-some, before-place}
 use borrow.Author.Needs.{needs}
 use Rattle.lines.proofs.scan.before.Statement.{statement}

@@ -1,6 +1,5 @@
 use mathlib.Core.Path.{_≡_}
 use Prim.Native.Nat.{_+_, _-_, _≤_}
-use native.Mathlib.Omega.{arith}
 use lib.ListN.{length, drop}
 use Rattle.text.specs.Fields.{upto}
 use Rattle.lines.proofs.Bytes.{find-here, find-on, find-none}
