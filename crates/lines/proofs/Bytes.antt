@@ -1,5 +1,5 @@
--- Laws for `find`, `agree`, `matches` and the parts, by what the code knows at the byte i of s, whose length is n: the definition on what is left of s
--- makes up the definition on the whole.
+-- Laws of finding and comparing bytes and of cutting parts out. In a loop the definition on what is left from the byte i on makes up the definition on
+-- the whole.
 use mathlib.Core.Path.{_≡_, refl, sym, ap, _∙_}
 use mathlib.Core.Bool.{Bool, true, false, not, _&&_}
 use mathlib.Core.List.{List, [], _∷_}
@@ -99,7 +99,7 @@ module _ (c : Spelling) where
       go true e = e
       go false e = refl
 
-  -- Nor do lists that differ at a byte.
+  -- Lists that differ at a byte do not match.
   match-differ-at : (s t : List ℕ) (i : ℕ) → i < length s → i < length t → (spelled c (getD s i 0) ≡ spelled c (getD t i 0) → ⊥) → false ≡ matches c s t
   unfolding matches
   match-differ-at (x ∷ s) (y ∷ t) zero h k d = rw (ne-eqb (spelled c x) (spelled c y) d)
@@ -118,12 +118,12 @@ module _ (c : Spelling) where
       no : {r : Bool} → true ≡ r → not r ≡ true → ⊥
       no e d = let z : _≡_ {A = ℕ} 0 1 = cc in omega arith
 
-  -- Nor do lists that differ at a byte in more than the bit in which cases differ.
+  -- Lists that differ at a byte in more than the bit in which cases differ do not match.
   pub match-differ-bit : (s t : List ℕ) (i : ℕ) → i < length s → i < length t → (b : ℕ) → b ≡ caseBit c → (bitOr (getD s i 0) b ≡ bitOr (getD t i 0) b → ⊥)
       → false ≡ matches c s t
   match-differ-bit s t i h k b e d = match-differ-at s t i h k (λ q. d (rw e (same-but-bit c (getD s i 0) (getD t i 0) q)))
 
-  -- From the byte i on they match: nothing at their end, one byte more, all.
+  -- Two lists match from the byte i on: at their end, one byte earlier, from their start.
   module _ (s t : List ℕ) (i : ℕ) where
     pub match-end : length s ≤ i → length t ≤ i → matches c (drop i s) (drop i t) ≡ true
     unfolding matches
@@ -152,13 +152,7 @@ pub after-none : (s r : List ℕ) (at : ℕ) → length s < at → length r ≤ 
 after-none s [] at h k = sym (drop-of-length-le s {i = at} (omega arith))
 after-none s (x ∷ r) at h k = absurd (omega arith)
 
-pub part-none : (s r : List ℕ) (from to : ℕ) → to ≤ from → r ≡ [] → r ≡ take (to - from) (drop from s)
-part-none s r from to h e = let z : to - from ≡ 0 = omega arith in rw z e
-
-pub part-some : (s u r : List ℕ) (from to : ℕ) → u ≡ drop from s → r ≡ take (to - from) u → r ≡ take (to - from) (drop from s)
-part-some s u r from to e f = f ∙ ap (take (to - from)) e
-
--- The place of a part that begins k bytes on.
+-- A part that begins k bytes on has its place k bytes on.
 pub before-place : (place : ℕ × ℕ) → (place .0, 0 + place .1) ≡ place
 before-place place = let e : 0 + place .1 ≡ place .1 = omega arith in ap (λ o. (place .0, o)) e
 

@@ -1,4 +1,4 @@
--- Laws for `judge` and for what follows the kind of a line, by what the code knows at each return.
+-- Laws of the judgement on a name and two numbers, and of what follows the kind of a line.
 use mathlib.Core.Path.{_≡_, refl, sym, ap, _∙_}
 use mathlib.Core.Bool.{Bool, true, false, not, _&&_, cond, and-false}
 use mathlib.Core.List.{List, [], _∷_}
@@ -24,7 +24,7 @@ use Rattle.lines.specs.declared.Cut.{Cut}
 use Rattle.lines.specs.declared.Cut.the-variants.{Three, Other}
 use Rattle.lines.specs.declared.Judged.{Judged}
 use Rattle.lines.specs.declared.Judged.the-variants.{Good, Bad}
-use Rattle.lines.proofs.Cuts.{not-three, ThreeAt, three-at}
+use Rattle.lines.proofs.ThreeFields.{not-three, ThreeAt, three-at}
 
 -- ---- judge
 
@@ -83,30 +83,30 @@ table-count p (x ∷ y ∷ z ∷ []) e = absurd (let o : _≡_ {A = ℕ} 0 1 = c
 table-count p (x ∷ y ∷ z ∷ v ∷ fs) e = refl
 
 module _ (s : List ℕ) (p : Place) (r : Cut) (e : r ≡ threeFields s) where
-  pub table-other : r ≡ Other → Refused 14 ≡ placed 0 (tableLine p (split 9 s))
-  table-other f = ap (placed 0) (table-count p (split 9 s) (not-three s r e f))
+  pub table-other : r ≡ Other → (a : ℕ) → Refused 14 ≡ placed a (tableLine p (split 9 s))
+  table-other f a = ap (placed a) (table-count p (split 9 s) (not-three s r e f))
 
   module _ (first second : ℕ) (f : r ≡ Three first second) (n x y : List ℕ) (u : n ≡ take first s)
       (v : x ≡ take (second - (first + 1)) (drop (first + 1) s)) (w : y ≡ drop (second + 1) s)
       (t : Bool) (b : t ≡ takesTable p) (j : Judged) (k : j ≡ judgement t n x y) where
-    table-reply : replied 0 table j ≡ placed 0 (tableLine p (split 9 s))
+    table-reply : (a : ℕ) → replied a table j ≡ placed a (tableLine p (split 9 s))
     unfolding tableLine
-    table-reply = rw (three-at s r first second e f .fields, ← u, ← v, ← w, ← b, k) (judged-reply 0 table t n x y)
+    table-reply a = rw (three-at s r first second e f .fields, ← u, ← v, ← w, ← b, k) (judged-reply a table t n x y)
 
-    pub table-good : (states initial : ℕ) → j ≡ Good states initial → Fields (Table states initial) ≡ placed 0 (tableLine p (split 9 s))
+    pub table-good : (states initial : ℕ) → j ≡ Good states initial → (a : ℕ) → Fields (Table states initial) ≡ placed a (tableLine p (split 9 s))
     unfolding replied
-    table-good states initial h = sym (ap (replied 0 table) h) ∙ table-reply
+    table-good states initial h a = sym (ap (replied a table) h) ∙ table-reply a
 
-    pub table-bad : (number : ℕ) → j ≡ Bad number → Refused number ≡ placed 0 (tableLine p (split 9 s))
+    pub table-bad : (number : ℕ) → j ≡ Bad number → (a : ℕ) → Refused number ≡ placed a (tableLine p (split 9 s))
     unfolding replied
-    table-bad number h = sym (ap (replied 0 table) h) ∙ table-reply
+    table-bad number h a = sym (ap (replied a table) h) ∙ table-reply a
 
 -- ---- the name of a declaration
 
 module _ (s : List ℕ) (role : Role) (p : Place) (n : ℕ) (e : n ≡ upto 9 s) where
-  pub declaration-more : n < length s → Refused 14 ≡ placed 0 (declarationLine role p (split 9 s))
+  pub declaration-more : n < length s → (a : ℕ) → Refused 14 ≡ placed a (declarationLine role p (split 9 s))
   unfolding declarationLine
-  declaration-more h =
+  declaration-more h a =
       let r = split-some 9 (drop (upto 9 s + 1) s) in
       rw (split-cut 9 s (omega arith), r .2)
 
@@ -114,20 +114,20 @@ module _ (s : List ℕ) (role : Role) (p : Place) (n : ℕ) (e : n ≡ upto 9 s)
     whole : split 9 s ≡ s ∷ []
     whole = split-last 9 s (omega (arith, upto-le 9 s))
 
-    pub declaration-place : not t ≡ true → Refused 15 ≡ placed 0 (declarationLine role p (split 9 s))
+    pub declaration-place : not t ≡ true → (a : ℕ) → Refused 15 ≡ placed a (declarationLine role p (split 9 s))
     unfolding declarationLine
-    declaration-place k = simp (whole, ← b, not-true t k)
+    declaration-place k a = simp (whole, ← b, not-true t k)
 
     module _ (k : not t ≡ false) (q : Bool) (m : q ≡ nameOk s) where
-      pub declaration-name : not q ≡ true → Refused 16 ≡ placed 0 (declarationLine role p (split 9 s))
+      pub declaration-name : not q ≡ true → (a : ℕ) → Refused 16 ≡ placed a (declarationLine role p (split 9 s))
       unfolding declarationLine
-      declaration-name g = simp (whole, ← b, not-false t k, ← m, not-true q g)
+      declaration-name g a = simp (whole, ← b, not-false t k, ← m, not-true q g)
 
-      pub declaration-good : not q ≡ false → Fields (Declaration role) ≡ placed 0 (declarationLine role p (split 9 s))
+      pub declaration-good : not q ≡ false → (a : ℕ) → Fields (Declaration role) ≡ placed a (declarationLine role p (split 9 s))
       unfolding declarationLine
-      declaration-good g = simp (whole, ← b, not-false t k, ← m, not-false q g)
+      declaration-good g a = simp (whole, ← b, not-false t k, ← m, not-false q g)
 
--- ---- the fields of a `step` line, from the byte `at` of the line l on
+-- ---- the fields of a `step` line, from its byte `at` on
 
 step-count : (p : Place) (fs : List (List ℕ)) → isThree fs ≡ false → refused 14 ≡ stepLine p fs
 unfolding stepLine
@@ -137,18 +137,9 @@ step-count p (x ∷ y ∷ []) e = refl
 step-count p (x ∷ y ∷ z ∷ []) e = absurd (let o : _≡_ {A = ℕ} 0 1 = cc in omega arith)
 step-count p (x ∷ y ∷ z ∷ v ∷ fs) e = refl
 
--- The reply of a step, whose fields begin at `at`.
-stepReply : ℕ → List ℕ → Place → Parsed
-stepReply at s p = placed (at + upto 9 s + 1) (stepLine p (split 9 s))
-
-module _ (l : List ℕ) (at : ℕ) (p : Place) (s : List ℕ) (d : s ≡ drop at l) (r : Cut) (e : r ≡ threeFields s) where
-  here : (a : Parsed) → a ≡ stepReply at s p → a ≡ placed (at + upto 9 (drop at l) + 1) (stepLine p (split 9 (drop at l)))
-  unfolding stepReply
-  here a q = rw (← d) q
-
-  pub step-other : r ≡ Other → Refused 14 ≡ placed (at + upto 9 (drop at l) + 1) (stepLine p (split 9 (drop at l)))
-  unfolding stepReply
-  step-other f = here (Refused 14) (ap (placed (at + upto 9 s + 1)) (step-count p (split 9 s) (not-three s r e f)))
+module _ (s : List ℕ) (at : ℕ) (p : Place) (r : Cut) (e : r ≡ threeFields s) where
+  pub step-other : r ≡ Other → Refused 14 ≡ placed (at + upto 9 s + 1) (stepLine p (split 9 s))
+  step-other f = ap (placed (at + upto 9 s + 1)) (step-count p (split 9 s) (not-three s r e f))
 
   module _ (first second : ℕ) (f : r ≡ Three first second) (x n y : List ℕ) (u : x ≡ take first s)
       (v : n ≡ take (second - (first + 1)) (drop (first + 1) s)) (w : y ≡ drop (second + 1) s)
@@ -156,8 +147,8 @@ module _ (l : List ℕ) (at : ℕ) (p : Place) (s : List ℕ) (d : s ≡ drop at
     cut : ThreeAt s first second
     cut = three-at s r first second e f
 
-    step-reply : replied (at + upto 9 s + 1) (λ (x y : ℕ). step x n y) j ≡ stepReply at s p
-    unfolding stepReply stepLine
+    step-reply : replied (at + upto 9 s + 1) (λ (x y : ℕ). step x n y) j ≡ placed (at + upto 9 s + 1) (stepLine p (split 9 s))
+    unfolding stepLine
     step-reply = rw (cut .fields, ← u, ← v, ← w, ← b, k) (judged-reply (at + upto 9 s + 1) (λ (x y : ℕ). step x n y) t n x y)
 
     name-length : length n ≡ second - (first + 1)
@@ -166,15 +157,14 @@ module _ (l : List ℕ) (at : ℕ) (p : Place) (s : List ℕ) (d : s ≡ drop at
         ap length v ∙ length-take-le (second - (first + 1)) (drop (first + 1) s) (omega (arith, c .in-order, c .within, length-drop (first + 1) s))
 
     pub step-good : (from to : ℕ) → j ≡ Good from to
-        → Fields (Step from (at + first + 1) (at + second) to) ≡ placed (at + upto 9 (drop at l) + 1) (stepLine p (split 9 (drop at l)))
+        → Fields (Step from (at + first + 1) (at + second) to) ≡ placed (at + upto 9 s + 1) (stepLine p (split 9 s))
     unfolding replied
     step-good from to h =
         let c = cut in
         let i : at + first + 1 ≡ at + upto 9 s + 1 = omega (arith, c .start) in
         let g : at + second ≡ at + upto 9 s + 1 + length n = omega (arith, c .start, c .in-order, name-length) in
-        here (Fields (Step from (at + first + 1) (at + second) to))
-        (rw (i, g) (sym (ap (replied (at + upto 9 s + 1) (λ (x y : ℕ). step x n y)) h) ∙ step-reply))
+        rw (i, g) (sym (ap (replied (at + upto 9 s + 1) (λ (x y : ℕ). step x n y)) h) ∙ step-reply)
 
-    pub step-bad : (number : ℕ) → j ≡ Bad number → Refused number ≡ placed (at + upto 9 (drop at l) + 1) (stepLine p (split 9 (drop at l)))
+    pub step-bad : (number : ℕ) → j ≡ Bad number → Refused number ≡ placed (at + upto 9 s + 1) (stepLine p (split 9 s))
     unfolding replied
-    step-bad number h = here (Refused number) (sym (ap (replied (at + upto 9 s + 1) (λ (x y : ℕ). step x n y)) h) ∙ step-reply)
+    step-bad number h = sym (ap (replied (at + upto 9 s + 1) (λ (x y : ℕ). step x n y)) h) ∙ step-reply

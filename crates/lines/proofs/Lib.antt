@@ -1,8 +1,9 @@
 pub mod Bytes
+pub mod Leading
 pub mod NameRule
 pub mod NumberRule
-pub mod Cuts
+pub mod ThreeFields
 pub mod Judging
-pub mod Parsing
+pub mod ByKind
 pub mod Meaning
 pub mod OnePass

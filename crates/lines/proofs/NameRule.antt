@@ -1,24 +1,16 @@
--- Laws for the name rule, by what the code knows at the byte i of s, whose length is n.
+-- Laws of the name rule: of a byte, of the name that a text begins with, of a whole field.
 use mathlib.Core.Path.{_≡_, refl, sym, ap, _∙_}
-use mathlib.Core.Bool.{Bool, true, false, not, _&&_, _||_, and-false, or-false}
+use mathlib.Core.Bool.{Bool, true, false, not, _&&_, _||_, cond, and-true, and-false, or-false}
 use mathlib.Core.List.{List}
-use Prim.Native.Nat.{ℕ, _+_, _≤_, _<_}
-use native.Mathlib.Numerals.{add-one}
+use Prim.Native.Nat.{ℕ, zero, suc, _+_, _≤_, _<_, min}
 use native.Mathlib.Omega.{arith}
 use lib.Dec.{eqb, leb}
-use lib.ListN.{length, drop, getD, drop-of-length-le}
-use lib.Seq.{drop-cons}
-use borrow.Author.Tests.{ne-eqb, le-leb, lt-leb, leb-true, not-true, not-false}
+use lib.ListN.{length, take, drop, getD}
+use lib.Seq.{take-all}
+use borrow.Author.Tests.{ne-eqb, eq-eqb, le-leb, lt-leb, leb-true, not-true, not-false}
 use Rattle.text.specs.Fields.{all, nameByte, nameOk}
-
--- One more byte of those that all pass a test.
-pub all-step : (f : ℕ → Bool) (s : List ℕ) (i : ℕ) → i < length s → all f (drop i s) ≡ (f (getD s i 0) && all f (drop (i + 1) s))
-unfolding all
-all-step f s i h = rw (add-one i, drop-cons s i 0 h)
-
-pub all-end : (f : ℕ → Bool) (s : List ℕ) (i : ℕ) → length s ≤ i → all f (drop i s) ≡ true
-unfolding all
-all-end f s i h = ap (all f) (drop-of-length-le s {i = i} h)
+use Rattle.lines.specs.Leading.{leading, nameWidth}
+use Rattle.lines.proofs.Leading.{leading-all, leading-take, leading-whole, leading-on, leading-stop, leading-end}
 
 -- ---- a byte
 
@@ -27,86 +19,138 @@ module _ (x : ℕ) where
   unfolding nameByte
   meaning = refl
 
-  pub byte-digit : 48 ≤ x → x ≤ 57 → true ≡ nameByte x
-  byte-digit h k = simp (meaning, le-leb 48 x h, le-leb x 57 k)
-
-  pub byte-upper : 65 ≤ x → x ≤ 90 → true ≡ nameByte x
-  byte-upper h k = simp (meaning, le-leb 48 x (omega arith), lt-leb x 57 (omega arith), le-leb 65 x h, le-leb x 90 k)
-
   pub byte-small : 97 ≤ x → leb x 122 ≡ nameByte x
   byte-small h =
       simp (
         meaning,
-        le-leb 48 x (omega arith),
         lt-leb x 57 (omega arith),
-        le-leb 65 x (omega arith),
         lt-leb x 90 (omega arith),
         le-leb 97 x h,
         ne-eqb x 95 (omega arith),
+        and-false,
         or-false,
       )
 
-  pub byte-underscore : x ≡ 95 → true ≡ nameByte x
-  unfolding nameByte
-  byte-underscore h = ap nameByte (sym h)
-
-  pub byte-low : x < 48 → false ≡ nameByte x
-  byte-low h =
-      simp (meaning, lt-leb 48 x h, lt-leb 65 x (omega arith), lt-leb 97 x (omega arith), ne-eqb x 95 (omega arith))
-
-  -- Between the digits and the capitals.
-  pub byte-mid : 57 < x → x < 65 → false ≡ nameByte x
-  byte-mid g h =
+  pub byte-digit : x ≤ 57 → leb 48 x ≡ nameByte x
+  byte-digit h =
       simp (
         meaning,
-        le-leb 48 x (omega arith),
-        lt-leb x 57 g,
-        lt-leb 65 x h,
+        le-leb x 57 h,
+        lt-leb 65 x (omega arith),
         lt-leb 97 x (omega arith),
         ne-eqb x 95 (omega arith),
+        and-true,
+        or-false,
       )
 
-  -- Between the capitals and the small letters.
-  pub byte-gap : 90 < x → x < 97 → (x ≡ 95 → ⊥) → false ≡ nameByte x
-  byte-gap g h n =
+  pub byte-capital : 57 < x → x ≤ 90 → leb 65 x ≡ nameByte x
+  byte-capital g h =
       simp (
         meaning,
-        le-leb 48 x (omega arith),
-        lt-leb x 57 (omega arith),
-        le-leb 65 x (omega arith),
-        lt-leb x 90 g,
-        lt-leb 97 x h,
-        ne-eqb x 95 n,
+        lt-leb x 57 g,
+        le-leb x 90 h,
+        lt-leb 97 x (omega arith),
+        ne-eqb x 95 (omega arith),
+        and-true,
+        and-false,
+        or-false,
       )
+
+  pub byte-underscore : 90 < x → x < 97 → eqb x 95 ≡ nameByte x
+  byte-underscore g h = simp (meaning, lt-leb x 57 (omega arith), lt-leb x 90 g, lt-leb 97 x h, and-false)
 
 -- ---- a name
 
-pub name-short : (s : List ℕ) → nameOk s ≡ true → length s ≤ 16
-unfolding nameOk
-name-short s h = leb-true (length s) 16 (go (leb 1 (length s)) (leb (length s) 16) (all nameByte s) h)
-  where
-    go : (a b c : Bool) → (a && b && c) ≡ true → b ≡ true
-    go true true c q = refl
-    go true false c q = q
-    go false b c q = absurd (let o : _≡_ {A = ℕ} 0 1 = cc in omega arith)
+pub both : (a b : Bool) → (a && b) ≡ true → (a ≡ true) × (b ≡ true)
+both true b h = (refl, h)
+both false b h = absurd (let o : _≡_ {A = ℕ} 0 1 = cc in omega arith)
+
+module _ (s : List ℕ) (h : nameOk s ≡ true) where
+  rule : ((leb 1 (length s) && leb (length s) 16) ≡ true) × (all nameByte s ≡ true)
+  unfolding nameOk
+  rule = both (leb 1 (length s) && leb (length s) 16) (all nameByte s) h
+
+  name-some : 1 ≤ length s
+  name-some = leb-true 1 (length s) (both (leb 1 (length s)) (leb (length s) 16) (rule .0) .0)
+
+  pub name-short : length s ≤ 16
+  name-short = leb-true (length s) 16 (both (leb 1 (length s)) (leb (length s) 16) (rule .0) .1)
+
+  pub name-bytes : all nameByte s ≡ true
+  name-bytes = rule .1
+
+-- ---- the name that s begins with
+
+-- The bytes from i on, with the i before them, are all name bytes that s begins with; no more than 17 bytes are looked at.
+pub record Letters (s : List ℕ) (end i : ℕ) : Type 0 where
+  pub within : i ≤ end
+  pub end-is : end ≡ min (length s) 17
+  pub width : i + length (leading nameByte (drop i s)) ≡ length (leading nameByte s)
 
 module _ (s : List ℕ) where
-  pub name-none : length s ≡ 0 → false ≡ nameOk s
-  unfolding nameOk
-  name-none h = simp h
+  pub letters-start : (end : ℕ) → end ≡ min (length s) 17 → Letters s end 0
+  letters-start end e = record { within = omega arith; end-is = e; width = omega arith }
 
-  pub name-long : 16 < length s → false ≡ nameOk s
-  unfolding nameOk
-  name-long h = simp (lt-leb (length s) 16 h, and-false)
+  width-is : (w : ℕ) → w ≡ length (leading nameByte s) → w ≤ 16 → w ≡ nameWidth s
+  unfolding nameWidth nameOk
+  width-is w e h = rw (← e, leading-all nameByte s, le-leb w 16 h) (go w)
+    where
+      go : (w : ℕ) → w ≡ cond (leb 1 w && true && true) w 0
+      go zero = refl
+      go (suc w) = rw (le-leb 1 (suc w) (omega arith))
 
-  module _ (n i : ℕ) (l : n ≡ length s) (e : all nameByte (drop i s) ≡ all nameByte s) where
-    pub name-bad : (r : Bool) → i < n → r ≡ nameByte (getD s i 0) → not r ≡ true → false ≡ nameOk s
-    unfolding nameOk
-    name-bad r h k g = simp (← e, all-step nameByte s i (omega arith), ← k, not-true r g, and-false)
+  module _ (end i : ℕ) (t : Letters s end i) where
+    pub letters-on : (r : Bool) → i < end → r ≡ nameByte (getD s i 0) → not r ≡ false → Letters s end (i + 1)
+    letters-on r h e g =
+        let l = leading-on nameByte s i (omega (arith, t .end-is)) (sym e ∙ not-false r g) in
+        record { within = omega arith; end-is = t .end-is; width = omega (arith, t .width, ap length l) }
 
-    pub name-on : (r : Bool) → i < n → r ≡ nameByte (getD s i 0) → not r ≡ false → all nameByte (drop (i + 1) s) ≡ all nameByte s
-    name-on r h k g = sym (simp (← k, not-false r g) at (all-step nameByte s i (omega arith))) ∙ e
+    pub width-stop : (r : Bool) → i < end → r ≡ nameByte (getD s i 0) → not r ≡ true → i ≡ nameWidth s
+    width-stop r h e g =
+        let l = leading-stop nameByte s i (omega (arith, t .end-is)) (sym e ∙ not-true r g) in
+        width-is i (omega (arith, t .width, ap length l)) (omega (arith, t .end-is))
 
-    pub name-all : (length s ≡ 0 → ⊥) → length s ≤ 16 → n ≤ i → true ≡ nameOk s
-    unfolding nameOk
-    name-all p q h = simp (le-leb 1 (length s) (omega arith), le-leb (length s) 16 q, ← e, all-end nameByte s i (omega arith))
+    pub width-long : end ≤ i → 16 < end → 0 ≡ nameWidth s
+    unfolding nameWidth nameOk
+    width-long h k = rw (lt-leb (length (leading nameByte s)) 16 (omega (arith, t .width))) (go (leb 1 (length (leading nameByte s))))
+      where
+        go : (a : Bool) → 0 ≡ cond (a && false && all nameByte (leading nameByte s)) (length (leading nameByte s)) 0
+        go true = refl
+        go false = refl
+
+    pub width-end : end ≤ i → end ≤ 16 → end ≡ nameWidth s
+    width-end h k =
+        width-is end
+        (omega (arith, t .width, t .within, t .end-is, ap length (leading-end nameByte s i (omega (arith, t .end-is)))))
+        k
+
+-- ---- what a width says
+
+module _ (s : List ℕ) (w : ℕ) (e : w ≡ nameWidth s) where
+  pub name-at : (w ≡ 0 → ⊥) → nameOk (take w s) ≡ true
+  unfolding nameWidth
+  name-at n = go (nameOk (leading nameByte s)) refl e
+    where
+      go : (b : Bool) → nameOk (leading nameByte s) ≡ b → w ≡ cond b (length (leading nameByte s)) 0 → nameOk (take w s) ≡ true
+      go true g q = rw (q, leading-take nameByte s) g
+      go false g q = absurd (n q)
+
+  whole : nameOk s ≡ true → w ≡ length s
+  unfolding nameWidth
+  whole h = e ∙ rw (leading-whole nameByte s (name-bytes s h), h)
+
+  pub not-name : w ≡ 0 → false ≡ nameOk s
+  not-name z = go (nameOk s) refl
+    where
+      go : (b : Bool) → nameOk s ≡ b → false ≡ b
+      go true h = absurd (omega (arith, whole h, name-some s h))
+      go false h = refl
+
+  pub whole-name : (w ≡ 0 → ⊥) → eqb w (length s) ≡ nameOk s
+  whole-name z = go (nameOk s) refl
+    where
+      go : (b : Bool) → nameOk s ≡ b → eqb w (length s) ≡ b
+      go true h = eq-eqb w (length s) (whole h)
+      go false h =
+          ne-eqb w (length s)
+          (λ q. let g = name-at z in let k = take-all w s (omega arith) in let o : _≡_ {A = ℕ} 0 1 = cc in omega arith)

@@ -1,108 +1,48 @@
--- Laws for a step line that is taken apart in one pass, by what the code knows at each return.
+-- Laws of a step line that is taken apart in one pass, and of the first line of a text.
 use mathlib.Core.Path.{_≡_, refl, sym, ap, _∙_}
-use mathlib.Core.Bool.{Bool, true, false, not, _||_, cond, or-true}
+use mathlib.Core.Bool.{Bool, true, false, not, cond}
 use mathlib.Core.List.{List, [], _∷_, _++_, append-assoc}
-use Prim.Native.Nat.{ℕ, suc, _+_, _-_, _*_, _≤_, _<_}
+use Prim.Native.Nat.{ℕ, suc, _+_, _≤_, _<_}
 use native.Mathlib.Numerals.{add-one}
 use native.Mathlib.Omega.{arith}
 use native.Mathlib.Decide.{decLt}
 use lib.Dec.{eqb}
-use lib.ListN.{length, take, drop, getD, length-append, take-append-drop}
-use lib.Seq.{take-suc, split-at, length-take-le, take-append-seam, getD-take}
-use borrow.Author.Tests.{ne-eqb, eq-eqb, le-leb, lt-ltb, le-ltb, not-false}
+use lib.ListN.{length, take, drop, getD, length-append, length-take, take-append-drop}
+use lib.Seq.{split-at, length-take-le, take-append-seam}
+use borrow.Author.Tests.{eq-eqb, lt-ltb, le-ltb, not-false}
 use Rattle.text.specs.declared.Place.{Place}
-use Rattle.text.specs.Fields.{split, upto, matches, same, all, nameByte, nameOk, digitByte, valueFrom, value, numberOk}
+use Rattle.text.specs.Fields.{split, upto, matches, same, nameByte, nameOk, digitByte, value, numberOk}
 use Rattle.text.specs.Lines.{step, refused, stepWord, takesStep, stepLine, byKind, parse}
-use Rattle.text.proofs.Decimal.{all-append, value-append}
 use Rattle.text.proofs.Names.{same-eq}
 use Rattle.text.proofs.Split.{Free, free-cons, free-append, free-all, split-join, split-last}
+use Rattle.lines.proofs.NameRule.{name-bytes}
+use Rattle.lines.proofs.NumberRule.{number-digits}
 use Rattle.lines.proofs.Meaning.{refused-reply}
 use Rattle.lines.specs.Located.{stepName, located, measured, firstLine}
-use Rattle.lines.specs.OnePass.{Digits, NumberBefore, numberTold, Letters, NameBefore, nameTold, StepFirst, stepTold}
+use Rattle.lines.specs.OnePass.{StepFirst, stepRead}
 use Rattle.lines.specs.declared.Record.{Record}
 use Rattle.lines.specs.declared.Record.the-variants.{Step as StepRecord}
-use Rattle.lines.specs.declared.quick.Numbered.{Numbered}
-use Rattle.lines.specs.declared.quick.Numbered.the-variants.{Before as NumberAt}
-use Rattle.lines.specs.declared.quick.Named.{Named}
-use Rattle.lines.specs.declared.quick.Named.the-variants.{Before as NameAt}
-use Rattle.lines.specs.declared.quick.Quick.{Quick}
-use Rattle.lines.specs.declared.quick.Quick.the-variants.{Step}
+use Rattle.lines.specs.declared.one_pass.Reading.{Reading}
+use Rattle.lines.specs.declared.one_pass.Reading.the-variants.{Step}
 use Rattle.lines.specs.declared.Line.{Line}
 use Rattle.lines.specs.declared.Line.the-variants.{Taken}
 use Rattle.lines.specs.declared.Line.the-variants.{Refused as NoLine}
 use Rattle.lines.specs.declared.Parsed.{Parsed}
 use Rattle.lines.specs.declared.Parsed.the-variants.{Fields, Refused}
 
--- ---- the first bytes of s pass a test: none, and one more
-
-pub none-passed : (f : ℕ → Bool) (s : List ℕ) → all f (take 0 s) ≡ true
-unfolding all
-none-passed f s = refl
-
-pub none-valued : (s : List ℕ) → value (take 0 s) ≡ 0
-unfolding valueFrom
-none-valued s = refl
-
-module _ (s : List ℕ) (i : ℕ) (h : i < length s) where
-  one-more : take (i + 1) s ≡ take i s ++ getD s i 0 ∷ []
-  one-more = rw (add-one i) (take-suc s i 0 h)
-
-  all-on : (f : ℕ → Bool) → all f (take i s) ≡ true → f (getD s i 0) ≡ true → all f (take (i + 1) s) ≡ true
-  unfolding all
-  all-on f p q = rw (one-more, all-append f (take i s) (getD s i 0 ∷ []), p, q)
-
-  pub digit-on : all digitByte (take i s) ≡ true → 48 ≤ getD s i 0 → getD s i 0 ≤ 57 → all digitByte (take (i + 1) s) ≡ true
-  unfolding digitByte
-  digit-on p l u = all-on digitByte p (rw (le-leb 48 (getD s i 0) l, le-leb (getD s i 0) 57 u))
-
-  pub value-on : (v x : ℕ) → x ≡ getD s i 0 → value (take i s) ≡ v → value (take (i + 1) s) ≡ v * 10 + (x - 48)
-  value-on v x f e = ap value one-more ∙ value-append 0 (take i s) (getD s i 0) ∙ rw (e, f)
-
-  pub letter-on : all nameByte (take i s) ≡ true → (r : Bool) → r ≡ nameByte (getD s i 0) → not r ≡ false → all nameByte (take (i + 1) s) ≡ true
-  letter-on p r e n = all-on nameByte p (sym e ∙ not-false r n)
-
--- ---- a number, a name, before the byte b
-
-module _ (b : ℕ) (s : List ℕ) (v w : ℕ) (d : Digits s v w) (e : getD s w 0 ≡ b) (p : w ≡ 0 → ⊥) (q : w ≤ 5) where
-  width : length (take w s) ≡ w
-  width = length-take-le w s (omega (arith, d .within))
-
-  number : (eqb w 1 || not (eqb (getD (take w s) 0 0) 48)) ≡ true → NumberBefore b s v w
-  unfolding numberOk
-  number z = record {
-    within = d .within;
-    ends = e;
-    digits = d .digits;
-    good = simp (width, le-leb 1 w (omega (arith, p)), le-leb w 5 q, d .digits, z, d .is, le-leb v 65535 (d .small));
-    is = d .is;
-  }
-
-  pub number-one : w ≡ 1 → NumberBefore b s v w
-  number-one o = number (rw (eq-eqb w 1 o))
-
-  pub number-many : (getD s 0 0 ≡ 48 → ⊥) → NumberBefore b s v w
-  number-many z = number (rw (getD-take w s 0 0 (omega (arith, p)), ne-eqb (getD s 0 0) 48 z, or-true))
-
-pub name-before : (b : ℕ) (s : List ℕ) (w : ℕ) → Letters s w → getD s w 0 ≡ b → (w ≡ 0 → ⊥) → w ≤ 16 → NameBefore b s w
-unfolding nameOk
-name-before b s w d e p q =
-    let l : length (take w s) ≡ w = length-take-le w s (omega (arith, d .within)) in
-    record {
-      within = d .within;
-      ends = e;
-      letters = d .letters;
-      good = simp (l, le-leb 1 w (omega (arith, p)), le-leb w 16 q, d .letters);
-    }
-
--- ---- what the replies say
-
-pub number-told : (b : ℕ) (s : List ℕ) (r : Numbered) (v w : ℕ) → numberTold b s r → r ≡ NumberAt v w → NumberBefore b s v w
-number-told b s r v w t e = rw e at t
-
-pub name-told : (b : ℕ) (s : List ℕ) (r : Named) (w : ℕ) → nameTold b s r → r ≡ NameAt w → NameBefore b s w
-name-told b s r w t e = rw e at t
-
 -- ---- the line of a step
+
+-- A number of w digits before the byte b.
+pub record NumberBefore (b : ℕ) (s : List ℕ) (v w : ℕ) : Type 0 where
+  pub within : w < length s
+  pub ends : getD s w 0 ≡ b
+  pub rule : (numberOk (take w s) ≡ true) × (value (take w s) ≡ v)
+
+-- A name of w bytes before the byte b.
+pub record NameBefore (b : ℕ) (s : List ℕ) (w : ℕ) : Type 0 where
+  pub within : w < length s
+  pub ends : getD s w 0 ≡ b
+  pub rule : nameOk (take w s) ≡ true
 
 upto-join : (b : ℕ) (s t : List ℕ) → Free b s → upto b (s ++ b ∷ t) ≡ length s
 unfolding upto
@@ -114,94 +54,110 @@ upto-join b (x ∷ s) t e = go (eqb x b) (upto-join b s t) e
     go true ih e = absurd (omega arith)
     go false ih e = ap suc (ih (omega arith))
 
--- With the fields f, n and t.
+-- A step line with the fields f, n and t, without its LF.
 stepText : List ℕ → List ℕ → List ℕ → List ℕ
 stepText f n t = stepWord ++ 9 ∷ (f ++ 9 ∷ (n ++ 9 ∷ t))
 
-module _ (f n t : List ℕ) (df : all digitByte f ≡ true) (dn : all nameByte n ≡ true) (dt : all digitByte t ≡ true) where
+module _ (f n t : List ℕ) (gf : numberOk f ≡ true) (gn : nameOk n ≡ true) (gt : numberOk t ≡ true) where
+  free-from : (b : ℕ) → digitByte b ≡ false → Free b f
+  free-from b h = free-all digitByte b f h (number-digits f gf)
+
+  free-name : (b : ℕ) → nameByte b ≡ false → Free b n
+  free-name b h = free-all nameByte b n h (name-bytes n gn)
+
+  free-to : (b : ℕ) → digitByte b ≡ false → Free b t
+  free-to b h = free-all digitByte b t h (number-digits t gt)
+
   fields : split 9 (stepText f n t) ≡ stepWord ∷ f ∷ n ∷ t ∷ []
   unfolding stepText upto digitByte nameByte
   fields =
       split-join 9 stepWord (f ++ 9 ∷ (n ++ 9 ∷ t)) refl
       ∙ ap (λ l. stepWord ∷ l)
-      (split-join 9 f (n ++ 9 ∷ t) (free-all digitByte 9 f refl df)
-      ∙ ap (λ l. f ∷ l) (split-join 9 n t (free-all nameByte 9 n refl dn) ∙ ap (λ l. n ∷ l) (split-last 9 t (free-all digitByte 9 t refl dt))))
+      (split-join 9 f (n ++ 9 ∷ t) (free-from 9 refl)
+      ∙ ap (λ l. f ∷ l) (split-join 9 n t (free-name 9 refl) ∙ ap (λ l. n ∷ l) (split-last 9 t (free-to 9 refl))))
 
   free : Free 10 (stepText f n t)
   unfolding stepText upto digitByte nameByte
   free =
       free-append 10 stepWord (9 ∷ (f ++ 9 ∷ (n ++ 9 ∷ t))) refl
       (free-cons 10 9 (f ++ 9 ∷ (n ++ 9 ∷ t)) refl
-      (free-append 10 f (9 ∷ (n ++ 9 ∷ t)) (free-all digitByte 10 f refl df)
-      (free-cons 10 9 (n ++ 9 ∷ t) refl
-      (free-append 10 n (9 ∷ t) (free-all nameByte 10 n refl dn) (free-cons 10 9 t refl (free-all digitByte 10 t refl dt))))))
+      (free-append 10 f (9 ∷ (n ++ 9 ∷ t)) (free-from 10 refl)
+      (free-cons 10 9 (n ++ 9 ∷ t) refl (free-append 10 n (9 ∷ t) (free-name 10 refl) (free-cons 10 9 t refl (free-to 10 refl))))))
 
   starts : stepName (stepText f n t) ≡ length f + 6
   unfolding stepText upto digitByte
   starts =
-      let z : upto 9 (f ++ 9 ∷ (n ++ 9 ∷ t)) ≡ length f = upto-join 9 f (n ++ 9 ∷ t) (free-all digitByte 9 f refl df) in
+      let z : upto 9 (f ++ 9 ∷ (n ++ 9 ∷ t)) ≡ length f = upto-join 9 f (n ++ 9 ∷ t) (free-from 9 refl) in
       omega arith
 
   long : length (stepText f n t) ≡ length f + 6 + length n + 1 + length t
   unfolding stepText
   long = simp length-append (omega arith)
 
-  says : nameOk n ≡ true → numberOk f ≡ true → numberOk t ≡ true → (p : Place) → takesStep p ≡ true
-      → parse p (stepText f n t) ≡ step (value f) n (value t)
+  says : (p : Place) → takesStep p ≡ true → parse p (stepText f n t) ≡ step (value f) n (value t)
   unfolding parse byKind stepLine matches
-  says gn gf gt p h = rw (fields, h, gn, gf, gt)
+  says p h = rw (fields, h, gn, gf, gt)
 
 before-byte : (b : ℕ) (s : List ℕ) (w : ℕ) → w < length s → getD s w 0 ≡ b → s ≡ take w s ++ b ∷ drop (w + 1) s
 before-byte b s w h e = split-at s w 0 h ∙ rw (e, add-one w)
 
--- s begins with `step` and a tab; its fields stand behind.
-module _ (s k fields : List ℕ) (kind : k ≡ take 5 s) (told : Bool) (is-step : told ≡ same k (stepWord ++ 9 ∷ [])) (yes-step : not told ≡ false)
-    (u : fields ≡ drop 5 s) (from a : ℕ) (first : NumberBefore 9 fields from a) (tail : List ℕ) (v : tail ≡ drop (a + 1) fields)
-    (w : ℕ) (second : NameBefore 9 tail w) (last : List ℕ) (x : last ≡ drop (w + 1) tail) (to n : ℕ) (third : NumberBefore 10 last to n) where
-  abbrev whole : List ℕ
-  whole = stepText (take a fields) (take w tail) (take n last)
+-- s begins with `step` and a tab.
+module _ (s k : List ℕ) (kind : k ≡ take 5 s) (r : Bool) (e : r ≡ same k (stepWord ++ 9 ∷ [])) (y : not r ≡ false) where
+  word : take 5 s ≡ stepWord ++ 9 ∷ []
+  word = sym kind ∙ same-eq k (stepWord ++ 9 ∷ []) (sym e ∙ not-false r y)
 
-  cut : s ≡ whole ++ 10 ∷ drop (n + 1) last
-  unfolding stepText
-  cut =
-      let e : take 5 s ≡ stepWord ++ 9 ∷ [] = sym kind ∙ same-eq k (stepWord ++ 9 ∷ []) (sym is-step ∙ not-false told yes-step) in
-      let g : last ≡ take n last ++ 10 ∷ drop (n + 1) last = before-byte 10 last n (third .within) (third .ends) in
-      let h : tail ≡ take w tail ++ 9 ∷ last = before-byte 9 tail w (second .within) (second .ends) ∙ rw (← x) in
-      let i : fields ≡ take a fields ++ 9 ∷ tail = before-byte 9 fields a (first .within) (first .ends) ∙ rw (← v) in
-      sym (take-append-drop 5 s) ∙ ap (λ l. l ++ drop 5 s) e ∙ ap (λ l. stepWord ++ 9 ∷ l)
-      (sym u ∙ i ∙ ap (λ l. take a fields ++ 9 ∷ l) (h ∙ ap (λ l. take w tail ++ 9 ∷ l) g)
-      ∙ simp append-assoc)
+  pub word-long : 5 ≤ length s
+  word-long = omega (arith, length-take 5 s, ap length word)
 
-  lengths : length whole ≡ a + 6 + w + 1 + n
-  lengths =
-      long (take a fields) (take w tail) (take n last) (first .digits) (second .letters) (third .digits)
-      ∙ rw (
-        length-take-le a fields (omega (arith, first .within)),
-        length-take-le w tail (omega (arith, second .within)),
-        length-take-le n last (omega (arith, third .within)),
-      )
+  -- The fields of s stand behind the word.
+  module _ (fields : List ℕ) (u : fields ≡ drop 5 s) (from a : ℕ) (first : NumberBefore 9 fields from a) (named : List ℕ)
+      (v : named ≡ drop (a + 1) fields) (w : ℕ) (second : NameBefore 9 named w) (last : List ℕ) (x : last ≡ drop (w + 1) named)
+      (to n : ℕ) (third : NumberBefore 10 last to n) where
+    abbrev whole : List ℕ
+    whole = stepText (take a fields) (take w named) (take n last)
 
-  the-line : take (a + 6 + w + 1 + n) s ≡ whole
-  the-line = rw (← lengths, cut) (take-append-seam whole (10 ∷ drop (n + 1) last))
+    cut : s ≡ whole ++ 10 ∷ drop (n + 1) last
+    unfolding stepText
+    cut =
+        let g : last ≡ take n last ++ 10 ∷ drop (n + 1) last = before-byte 10 last n (third .within) (third .ends) in
+        let h : named ≡ take w named ++ 9 ∷ last = before-byte 9 named w (second .within) (second .ends) ∙ rw (← x) in
+        let i : fields ≡ take a fields ++ 9 ∷ named = before-byte 9 fields a (first .within) (first .ends) ∙ rw (← v) in
+        sym (take-append-drop 5 s) ∙ ap (λ l. l ++ drop 5 s) word ∙ ap (λ l. stepWord ++ 9 ∷ l)
+        (sym u ∙ i ∙ ap (λ l. take a fields ++ 9 ∷ l) (h ∙ ap (λ l. take w named ++ 9 ∷ l) g)
+        ∙ simp append-assoc)
 
-  pub step-first : StepFirst s from (a + 6) (a + 6 + w) to (a + 6 + w + 1 + n)
-  step-first = record {
-    line =
-        sym (ap (upto 10) cut
-        ∙ upto-join 10 whole (drop (n + 1) last) (free (take a fields) (take w tail) (take n last) (first .digits) (second .letters) (third .digits))
-        ∙ lengths);
-    within = omega (arith, lengths, ap length cut ∙ length-append whole (10 ∷ drop (n + 1) last));
-    told = λ p h.
-        rw (
-          the-line,
-          says (take a fields) (take w tail) (take n last) (first .digits) (second .letters) (third .digits) (second .good) (first .good) (third .good) p h,
-          starts (take a fields) (take w tail) (take n last) (first .digits) (second .letters) (third .digits),
-          length-take-le a fields (omega (arith, first .within)),
-          length-take-le w tail (omega (arith, second .within)),
-          first .is,
-          third .is,
-        );
-  }
+    width-from : length (take a fields) ≡ a
+    width-from = length-take-le a fields (omega (arith, first .within))
+
+    width-name : length (take w named) ≡ w
+    width-name = length-take-le w named (omega (arith, second .within))
+
+    lengths : length whole ≡ a + 6 + w + 1 + n
+    lengths =
+        long (take a fields) (take w named) (take n last) (first .rule .0) (second .rule) (third .rule .0)
+        ∙ rw (width-from, width-name, length-take-le n last (omega (arith, third .within)))
+
+    the-line : take (a + 6 + w + 1 + n) s ≡ whole
+    the-line = rw (← lengths, cut) (take-append-seam whole (10 ∷ drop (n + 1) last))
+
+    pub step-first : StepFirst s from (a + 6) (a + 6 + w) to (a + 6 + w + 1 + n)
+    step-first = record {
+      line =
+          sym (ap (upto 10) cut
+          ∙ upto-join 10 whole (drop (n + 1) last) (free (take a fields) (take w named) (take n last) (first .rule .0) (second .rule) (third .rule .0))
+          ∙ lengths);
+      within = omega (arith, lengths, ap length cut ∙ length-append whole (10 ∷ drop (n + 1) last));
+      step = λ p h.
+          rw (
+            the-line,
+            says (take a fields) (take w named) (take n last) (first .rule .0) (second .rule) (third .rule .0) p h,
+            starts (take a fields) (take w named) (take n last) (first .rule .0) (second .rule) (third .rule .0),
+            width-from,
+            width-name,
+            first .rule .1,
+            third .rule .1,
+          );
+    }
 
 -- ---- the first line of a text
 
@@ -212,12 +168,12 @@ pub measured-refused : (n : ℕ) (q : Parsed) (k : ℕ) → q ≡ Refused k → 
 measured-refused n q k e = rw e
 
 module _ (p : Place) (s : List ℕ) where
-  pub first-step : (t : Bool) → t ≡ takesStep p → not t ≡ false → (q : Quick) → stepTold s q → (from start end to n : ℕ) → q ≡ Step from start end to n
+  pub first-step : (t : Bool) → t ≡ takesStep p → not t ≡ false → (q : Reading) → stepRead s q → (from start end to n : ℕ) → q ≡ Step from start end to n
       → Taken (StepRecord from start end to) n ≡ firstLine p s
   unfolding firstLine
   first-step t g h q d from start end to n e =
       let f : StepFirst s from start end to n = rw e at d in
-      rw (← f .line, lt-ltb n (length s) (f .within), ← f .told p (sym g ∙ not-false t h))
+      rw (← f .line, lt-ltb n (length s) (f .within), ← f .step p (sym g ∙ not-false t h))
 
   module _ (n : ℕ) (e : n ≡ upto 10 s) where
     pub first-unended : length s ≤ n → NoLine 14 ≡ firstLine p s

@@ -1,4 +1,5 @@
 pub mod Places
 pub mod CaseBit
+pub mod Leading
 pub mod Located
 pub mod OnePass

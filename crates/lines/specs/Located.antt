@@ -1,4 +1,4 @@
--- The replies of `says` and `parse`: an entry's fields, a name in them by where it stands in its line; and what its functions find on the way.
+-- The replies for a line: an entry's fields, a name in them by where it stands in its line; and what is found on the way to them.
 use mathlib.Core.Bool.{Bool, true, false, _&&_, cond}
 use mathlib.Core.List.{List, [], _∷_}
 use Prim.Native.Nat.{ℕ, _+_}
@@ -23,7 +23,7 @@ use Rattle.lines.specs.declared.Judged.the-variants.{Good, Bad}
 
 -- ---- the reply
 
--- An entry with its fields; a step's name begins at the byte a.
+-- The reply for an entry; a step's name begins at the byte a.
 abbrev pub placed : ℕ → Entry → Parsed
 placed a (table states initial) = Fields (Table states initial)
 placed a (declaration r n) = Fields (Declaration r)
@@ -38,6 +38,7 @@ afterKind l = drop (upto 9 l + 1) l
 abbrev pub stepName : List ℕ → ℕ
 stepName l = upto 9 l + 1 + upto 9 (afterKind l) + 1
 
+-- The reply for an entry of the line l.
 abbrev pub located : List ℕ → Entry → Parsed
 located l e = placed (stepName l) e
 
@@ -46,7 +47,7 @@ abbrev pub measured : ℕ → Parsed → Line
 measured n (Fields r) = Taken r n
 measured n (Refused k) = NoLine k
 
--- For the first line of s: 14 where it lacks its LF.
+-- The reply for the first line of s: 14 where it lacks its LF.
 unfoldable pub firstLine : Place → List ℕ → Line
 firstLine p s =
     cond (ltb (upto 10 s) (length s))
@@ -54,6 +55,7 @@ firstLine p s =
 
 -- ---- on the way
 
+-- The kind of line that the first field k names.
 unfoldable pub kindOf : List ℕ → Kind
 kindOf k =
     cond (same k tableWord) TableLine
@@ -68,10 +70,11 @@ isThree (x ∷ y ∷ []) = false
 isThree (x ∷ y ∷ z ∷ []) = true
 isThree (x ∷ y ∷ z ∷ v ∷ fs) = false
 
+-- Where the tabs of three fields stand.
 unfoldable pub threeFields : List ℕ → Cut
 threeFields s = cond (isThree (split 9 s)) (Three (upto 9 s) (upto 9 s + 1 + upto 9 (afterKind s))) Other
 
--- 15, 16, 17, or the values of the two numbers.
+-- The values of the two numbers x and y, or 15, 16 or 17.
 unfoldable pub judgement : Bool → List ℕ → List ℕ → List ℕ → Judged
 judgement place n x y =
     cond place (cond (nameOk n) (cond (numberOk x && numberOk y) (Good (value x) (value y)) (Bad 17)) (Bad 16)) (Bad 15)

@@ -1,16 +1,16 @@
 // Takes a line of table text apart (document 01, "Table text"): gives the fields of its record, or the number of its refusal.
 ghost use mathlib.Core.Path.{_≡_};
-ghost use Prim.Native.Nat.{_+_, _≤_};
-ghost use lib.ListN.{length, drop};
+ghost use Prim.Native.Nat.{ℕ, _+_, _<_};
+ghost use lib.ListN.{length};
 ghost use Rattle.text.specs.Fields.{split, upto};
 ghost use Rattle.text.specs.Lines.{roleWord, takesTable, takesDeclaration, takesStep, tableLine, declarationLine, stepLine, parse as entry};
 ghost use Rattle.lines.specs.Located.{kindOf, threeFields, judgement, placed, located, measured, firstLine};
-use quick::Quick;
+use one_pass::Reading;
 use text::Number;
 use text::Place;
 use text::Role;
 
-mod quick;
+mod one_pass;
 mod scan;
 mod tokens;
 
@@ -36,13 +36,13 @@ pub enum Record {
     },
 }
 
-// Reply of `parse`: the record of a line and its length without the LF; or the number of its refusal.
+// What `parse` returns: the record of a line and its length without the LF, or the number of its refusal.
 pub enum Line {
     Taken(Record, usize),
     Refused(u32),
 }
 
-// The record of a line that is given without its LF; or the number of its refusal.
+// What `parse_line` returns: the record of a line that is given without its LF, or the number of its refusal.
 pub enum Parsed {
     Fields(Record),
     Refused(u32),
@@ -56,13 +56,13 @@ enum Kind {
     Unknown,
 }
 
-// Where the two tabs between three fields stand.
+// Where the two tabs between three fields stand; `Other` if there are not three fields.
 enum Cut {
     Three { first: usize, second: usize },
     Other,
 }
 
-// The values of two numbers, or why they or the name with them are refused.
+// The values of the two numbers of a line, or the number of its refusal.
 enum Judged {
     Good(usize, usize),
     Bad(u32),
@@ -78,7 +78,7 @@ pub fn name_start(role: Role) -> usize
     }
 }
 
-// Which lines may stand at a place.
+// Tells whether a `table` line may stand at a place.
 fn takes_table(place: Place) -> bool
     ensures { λ r. ⌜ r ≡ takesTable place ⌝ }
 {
@@ -89,6 +89,7 @@ fn takes_table(place: Place) -> bool
     }
 }
 
+// Tells whether an `in` or `out` line may stand at a place.
 fn takes_declaration(place: Place) -> bool
     ensures { λ r. ⌜ r ≡ takesDeclaration place ⌝ }
 {
@@ -99,6 +100,7 @@ fn takes_declaration(place: Place) -> bool
     }
 }
 
+// Tells whether a `step` line may stand at a place.
 fn takes_step(place: Place) -> bool
     ensures { λ r. ⌜ r ≡ takesStep place ⌝ }
 {
@@ -109,7 +111,7 @@ fn takes_step(place: Place) -> bool
     }
 }
 
-// The kind that a line's first field names.
+// Tells which kind of line begins with this field.
 fn kind_of(word: &[u8]) -> Kind
     ensures { λ r. ⌜ r ≡ kindOf (now (word .entry)) ⌝ }
 {
@@ -128,7 +130,7 @@ fn kind_of(word: &[u8]) -> Kind
     Kind::Unknown
 }
 
-// The cut of a part of a line into exactly three fields.
+// Finds the two tabs between exactly three fields.
 fn three_fields(s: &[u8]) -> Cut
     ensures { λ r. ⌜ r ≡ threeFields (now (s .entry)) ⌝ }
 {
@@ -136,12 +138,12 @@ fn three_fields(s: &[u8]) -> Cut
     if s.len() <= first {
         return Cut::Other;
     }
-    let tail = scan::after(s, first + 1);
-    let width = scan::find(tail, b'\t');
-    if tail.len() <= width {
+    let rest = scan::tail(s, first + 1);
+    let width = scan::find(rest, b'\t');
+    if rest.len() <= width {
         return Cut::Other;
     }
-    let last = scan::after(tail, width + 1);
+    let last = scan::tail(rest, width + 1);
     if scan::find(last, b'\t') < last.len() {
         return Cut::Other;
     }
@@ -151,7 +153,7 @@ fn three_fields(s: &[u8]) -> Cut
     }
 }
 
-// A name and two numbers of a line, in the order of the refusals.
+// Judges the place, the name and the two numbers of a line, in the order of the refusals 15, 16 and 17.
 fn judge(in_place: bool, name: &[u8], x: &[u8], y: &[u8]) -> Judged
     ensures { λ r. ⌜ r ≡ judgement in_place (now (name .entry)) (now (x .entry)) (now (y .entry)) ⌝ }
 {
@@ -170,9 +172,9 @@ fn judge(in_place: bool, name: &[u8], x: &[u8], y: &[u8]) -> Judged
     Judged::Good(a, b)
 }
 
-// What follows the kind of a `table` line.
+// Takes apart what follows the kind of a `table` line.
 fn table_line(rest: &[u8], place: Place) -> Parsed
-    ensures { λ r. ⌜ r ≡ placed 0 (tableLine place (split 9 (now (rest .entry)))) ⌝ }
+    ensures { λ r. ⌜ ((at : ℕ) → r ≡ placed at (tableLine place (split 9 (now (rest .entry))))) ⌝ }
 {
     let Cut::Three { first, second } = three_fields(rest) else {
         return Parsed::Refused(14);
@@ -183,16 +185,16 @@ fn table_line(rest: &[u8], place: Place) -> Parsed
         takes_table(place),
         name,
         states,
-        scan::after(rest, second + 1),
+        scan::tail(rest, second + 1),
     ) {
         Judged::Good(states, initial) => Parsed::Fields(Record::Table { states, initial }),
         Judged::Bad(number) => Parsed::Refused(number),
     }
 }
 
-// What follows the kind of an `in` or `out` line.
+// Takes apart what follows the kind of an `in` or `out` line.
 fn declaration_line(rest: &[u8], role: Role, place: Place) -> Parsed
-    ensures { λ r. ⌜ r ≡ placed 0 (declarationLine role place (split 9 (now (rest .entry)))) ⌝ }
+    ensures { λ r. ⌜ ((at : ℕ) → r ≡ placed at (declarationLine role place (split 9 (now (rest .entry))))) ⌝ }
 {
     if scan::find(rest, b'\t') < rest.len() {
         return Parsed::Refused(14);
@@ -206,18 +208,17 @@ fn declaration_line(rest: &[u8], role: Role, place: Place) -> Parsed
     Parsed::Fields(Record::Declaration(role))
 }
 
-// What follows the kind of a `step` line, from the byte `at` of the line on.
-fn step_line(line: &[u8], at: usize, place: Place) -> Parsed
-    requires { ⌜ at ≤ length (now line) ⌝ }
-    ensures { λ r. ⌜ r ≡ placed (at + upto 9 (drop at (now (line .entry))) + 1) (stepLine place (split 9 (drop at (now (line .entry))))) ⌝ }
+// Takes apart what follows the kind of a `step` line and begins at its byte `at`.
+fn step_line(rest: &[u8], at: usize, place: Place) -> Parsed
+    requires { ⌜ at + length (now rest) < 18446744073709551616 ⌝ }
+    ensures { λ r. ⌜ r ≡ placed (at + upto 9 (now (rest .entry)) + 1) (stepLine place (split 9 (now (rest .entry)))) ⌝ }
 {
-    let rest = scan::after(line, at);
     let Cut::Three { first, second } = three_fields(rest) else {
         return Parsed::Refused(14);
     };
     let from = scan::before(rest, first);
     let name = scan::part(rest, first + 1, second);
-    match judge(takes_step(place), name, from, scan::after(rest, second + 1)) {
+    match judge(takes_step(place), name, from, scan::tail(rest, second + 1)) {
         Judged::Good(from, to) => Parsed::Fields(Record::Step {
             from,
             start: at + first + 1,
@@ -228,24 +229,24 @@ fn step_line(line: &[u8], at: usize, place: Place) -> Parsed
     }
 }
 
-// What a line, without its LF, says at its place.
-fn says(line: &[u8], place: Place) -> Parsed
+// Takes apart a line that is given without its LF.
+fn parse_line(line: &[u8], place: Place) -> Parsed
     ensures { λ r. ⌜ r ≡ located (now (line .entry)) (entry place (now (line .entry))) ⌝ }
 {
     let tab = scan::find(line, b'\t');
     if line.len() <= tab {
         return Parsed::Refused(14);
     }
-    let rest = scan::after(line, tab + 1);
+    let rest = scan::tail(line, tab + 1);
     match kind_of(scan::before(line, tab)) {
         Kind::TableLine => table_line(rest, place),
         Kind::DeclarationLine(role) => declaration_line(rest, role, place),
-        Kind::StepLine => step_line(line, tab + 1, place),
+        Kind::StepLine => step_line(rest, tab + 1, place),
         Kind::Unknown => Parsed::Refused(14),
     }
 }
 
-// The reply for a line of this length.
+// Adds the length of a line to what it says.
 fn of_length(parsed: Parsed, length: usize) -> Line
     ensures { λ r. ⌜ r ≡ measured length parsed ⌝ }
 {
@@ -255,7 +256,7 @@ fn of_length(parsed: Parsed, length: usize) -> Line
     }
 }
 
-// What the first line of a text says at its place, of whatever kind it is: its LF is looked for first, then its fields.
+// Takes apart the first line of s, of whatever kind: looks for its LF first, then for its fields.
 fn parse_any(s: &[u8], place: Place) -> Line
     ensures { λ r. ⌜ r ≡ firstLine place (now (s .entry)) ⌝ }
 {
@@ -263,7 +264,7 @@ fn parse_any(s: &[u8], place: Place) -> Line
     if s.len() <= length {
         return Line::Refused(14);
     }
-    of_length(says(scan::before(s, length), place), length)
+    of_length(parse_line(scan::before(s, length), place), length)
 }
 
 // Takes apart the first line of s, by the kinds that may stand at `place`; refuses it by 14 if it lacks its LF. Where a step may stand, most lines
@@ -274,13 +275,13 @@ pub fn parse(s: &[u8], place: Place) -> Line
     if !takes_step(place) {
         return parse_any(s, place);
     }
-    let Quick::Step {
+    let Reading::Step {
         from,
         start,
         end,
         to,
         length,
-    } = quick::step_line(s)
+    } = one_pass::step_line(s)
     else {
         return parse_any(s, place);
     };

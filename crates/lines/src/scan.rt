@@ -1,9 +1,9 @@
-// Finds bytes in table text, compares parts of it and cuts them out (document 01, "Table text"). The contract of a part that is handed back gives
-// its bytes and its place in memory, of an empty part too.
+// Finds bytes in table text, compares parts of it and cuts them out (document 01, "Table text"). The contracts of the parts that other
+// crates ask for give their bytes and their places in memory, of an empty part too.
 ghost use mathlib.Core.Path.{_≡_};
-ghost use Prim.Native.Nat.{_-_};
+ghost use Prim.Native.Nat.{_-_, _≤_};
 ghost use lib.Dec.{eqb};
-ghost use lib.ListN.{take, drop};
+ghost use lib.ListN.{length, take, drop};
 ghost use denote.Ref.{ptr};
 ghost use Rattle.text.specs.Fields.{upto, spelled, matches, same};
 ghost use Rattle.lines.specs.Places.{placeIn};
@@ -43,7 +43,7 @@ fn spell(spelling: Spelling, x: u8) -> u8
     }
 }
 
-// Whether two bytes are the same in a spelling. Most pairs differ, and the first test is the shorter one.
+// Tells whether two bytes are the same in a spelling. Most pairs differ, and the first test is the shorter one.
 fn agree(spelling: Spelling, x: u8, y: u8) -> bool
     ensures { λ r. ⌜ r ≡ eqb (spelled spelling x) (spelled spelling y) ⌝ }
 {
@@ -102,15 +102,19 @@ pub fn after<'a>(s: &'a [u8], at: usize) -> &'a [u8]
     &s[at..]
 }
 
-// Returns the part from the byte `from` on and before the byte `to`. If it has no byte, it is the empty part at `from`, or at the end of s if s is
-// shorter.
-pub fn part<'a>(s: &'a [u8], from: usize, to: usize) -> &'a [u8]
-    ensures { λ r. ⌜ now r ≡ take (to - from) (drop from (now (s .entry))) ⌝ }
-    ensures { λ r. ⌜ ptr r ≡ placeIn (ptr (s .entry)) (now (s .entry)) from ⌝ }
+// Returns the part of s from the byte `from` on.
+pub fn tail<'a>(s: &'a [u8], from: usize) -> &'a [u8]
+    requires { ⌜ from ≤ length (now s) ⌝ }
+    ensures { λ r. ⌜ now r ≡ drop from (now (s .entry)) ⌝ }
 {
-    let rest = after(s, from);
-    if to <= from {
-        return before(rest, 0);
-    }
-    before(rest, to - from)
+    &s[from..]
+}
+
+// Returns the part of s from the byte `from` on and before the byte `to`.
+pub fn part<'a>(s: &'a [u8], from: usize, to: usize) -> &'a [u8]
+    requires { ⌜ from ≤ to ⌝ }
+    requires { ⌜ to ≤ length (now s) ⌝ }
+    ensures { λ r. ⌜ now r ≡ take (to - from) (drop from (now (s .entry))) ⌝ }
+{
+    &s[from..to]
 }

@@ -1,4 +1,3 @@
-use native.Mathlib.Omega.{arith}
 use Rattle.lines.proofs.Judging.{declaration-more, declaration-place, declaration-name, declaration-good}
 use borrow.Author.Needs.{needs}
 use Rattle.lines.proofs.declaration_line.Statement.{statement}
@@ -8,30 +7,22 @@ find-requires : tie.Need-find-requires
 find-requires c κs = search needs
 
 returns : tie.Need-returns
-returns c = declaration-more _ _ _ _ (c .before .find .ensures) (omega arith)
+returns c = search (declaration-more, needs)
 
 takes-declaration-requires : tie.Need-takes-declaration-requires
 takes-declaration-requires c κs = search needs
 
 returns-2 : tie.Need-returns-2
-returns-2 c =
-    declaration-place _ _ _ _ (c .before .before .before .find .ensures) (omega arith) _ (c .before .takes-declaration .ensures)
-    (c .if2 .taken)
+returns-2 c = search (declaration-place, needs)
 
 is-name-requires : tie.Need-is-name-requires
 is-name-requires c κs = search needs
 
 returns-3 : tie.Need-returns-3
-returns-3 c =
-    declaration-name _ _ _ _ (c .before .before .before .before .before .find .ensures) (omega arith) _
-    (c .before .before .before .takes-declaration .ensures)
-    (c .before .before .if2 .left) _ (c .before .is-name .ensures) (c .if3 .taken)
+returns-3 c = search (declaration-name, needs)
 
 returns-4 : tie.Need-returns-4
-returns-4 c =
-    declaration-good _ _ _ _ (c .before .before .before .before .before .find .ensures) (omega arith) _
-    (c .before .before .before .takes-declaration .ensures)
-    (c .before .before .if2 .left) _ (c .before .is-name .ensures) (c .if3 .left)
+returns-4 c = search (declaration-good, needs)
 
 pub declaration-line-spec : {M : Type 1} → statement M
 declaration-line-spec =

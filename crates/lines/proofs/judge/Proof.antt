@@ -4,13 +4,13 @@ use Rattle.lines.proofs.judge.Statement.{statement}
 use Rattle.lines.proofs.judge.Tie as tie
 
 returns : tie.Need-returns
-returns c = judge-place _ _ _ _ (c .if1 .taken)
+returns c = search (judge-place, needs)
 
 is-name-requires : tie.Need-is-name-requires
 is-name-requires c κs = search needs
 
 returns-2 : tie.Need-returns-2
-returns-2 c = judge-name _ _ _ _ (c .before .before .if1 .left) _ (c .before .is-name .ensures) (c .if2 .taken)
+returns-2 c = search (judge-name, needs)
 
 number-requires : tie.Need-number-requires
 number-requires c κs = search needs
@@ -22,10 +22,7 @@ enum-told : tie.Need-enum-told
 enum-told c = search needs
 
 returns-3 : tie.Need-returns-3
-returns-3 c =
-    let d = c .before .before .before in
-    judge-first _ _ _ _ (d .before .before .if1 .left) _ (d .before .is-name .ensures) (d .if2 .left) _ (c .before .before .number .ensures)
-    (c .enum-told .given .1)
+returns-3 c = search (judge-first, needs)
 
 number-requires-2 : tie.Need-number-requires-2
 number-requires-2 c κs = search needs
@@ -37,18 +34,10 @@ enum-told-2 : tie.Need-enum-told-2
 enum-told-2 c = search needs
 
 returns-4 : tie.Need-returns-4
-returns-4 c =
-    let d = c .before .before .before .before .before .before .before in
-    judge-second _ _ _ _ (d .before .before .if1 .left) _ (d .before .is-name .ensures) (d .if2 .left) _
-    (c .before .before .before .before .before .before .number .ensures)
-    _ (c .before .before .before .before .a .given .1) _ (c .before .before .number2 .ensures) (c .enum-told2 .given .1)
+returns-4 c = search (judge-second, needs)
 
 returns-5 : tie.Need-returns-5
-returns-5 c =
-    let d = c .before .before .before .before .before .before .before .before in
-    judge-good _ _ _ _ (d .before .before .if1 .left) _ (d .before .is-name .ensures) (d .if2 .left) _
-    (c .before .before .before .before .before .before .before .number .ensures)
-    _ (c .before .before .before .before .before .a .given .1) _ (c .before .before .before .number2 .ensures) _ (c .before .b .given .1)
+returns-5 c = search (judge-good, needs)
 
 pub judge-spec : {M : Type 1} → statement M
 judge-spec =

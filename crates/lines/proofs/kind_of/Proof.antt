@@ -1,4 +1,4 @@
-use Rattle.lines.proofs.Parsing.{kind-table, kind-in, kind-out, kind-step, kind-none}
+use Rattle.lines.proofs.ByKind.{kind-table, kind-in, kind-out, kind-step, kind-none}
 use borrow.Author.Needs.{needs}
 use Rattle.lines.proofs.kind_of.Statement.{statement}
 use Rattle.lines.proofs.kind_of.Tie as tie
@@ -10,7 +10,7 @@ equal-requires : tie.Need-equal-requires
 equal-requires c κs = search needs
 
 returns : tie.Need-returns
-returns c = kind-table _ _ (c .before .equal .ensures) (c .if1 .taken)
+returns c = search (kind-table, needs)
 
 slice-aggregate-equal-2 : tie.Need-slice-aggregate-equal-2
 slice-aggregate-equal-2 c = search needs
@@ -19,9 +19,7 @@ equal-requires-2 : tie.Need-equal-requires-2
 equal-requires-2 c κs = search needs
 
 returns-2 : tie.Need-returns-2
-returns-2 c =
-    kind-in _ _ (c .before .before .before .before .equal .ensures) (c .before .before .before .if1 .left) _ (c .before .equal2 .ensures)
-    (c .if2 .taken)
+returns-2 c = search (kind-in, needs)
 
 slice-aggregate-equal-3 : tie.Need-slice-aggregate-equal-3
 slice-aggregate-equal-3 c = search needs
@@ -30,10 +28,7 @@ equal-requires-3 : tie.Need-equal-requires-3
 equal-requires-3 c κs = search needs
 
 returns-3 : tie.Need-returns-3
-returns-3 c =
-    kind-out _ _ (c .before .before .before .before .before .before .before .equal .ensures)
-    (c .before .before .before .before .before .before .if1 .left) _ (c .before .before .before .before .equal2 .ensures)
-    (c .before .before .before .if2 .left) _ (c .before .equal3 .ensures) (c .if3 .taken)
+returns-3 c = search (kind-out, needs)
 
 slice-aggregate-equal-4 : tie.Need-slice-aggregate-equal-4
 slice-aggregate-equal-4 c = search needs
@@ -42,18 +37,10 @@ equal-requires-4 : tie.Need-equal-requires-4
 equal-requires-4 c κs = search needs
 
 returns-4 : tie.Need-returns-4
-returns-4 c =
-    let d = c .before .before .before in
-    kind-step _ _ (d .before .before .before .before .before .before .before .equal .ensures)
-    (d .before .before .before .before .before .before .if1 .left) _ (d .before .before .before .before .equal2 .ensures)
-    (d .before .before .before .if2 .left) _ (d .before .equal3 .ensures) (d .if3 .left) _ (c .before .equal4 .ensures) (c .if4 .taken)
+returns-4 c = search (kind-step, needs)
 
 returns-5 : tie.Need-returns-5
-returns-5 c =
-    let d = c .before .before .before in
-    kind-none _ _ (d .before .before .before .before .before .before .before .equal .ensures)
-    (d .before .before .before .before .before .before .if1 .left) _ (d .before .before .before .before .equal2 .ensures)
-    (d .before .before .before .if2 .left) _ (d .before .equal3 .ensures) (d .if3 .left) _ (c .before .equal4 .ensures) (c .if4 .left)
+returns-5 c = search (kind-none, needs)
 
 pub kind-of-spec : {M : Type 1} → statement M
 kind-of-spec =

@@ -1,4 +1,4 @@
-use Rattle.lines.proofs.Parsing.{start-in, start-out}
+use Rattle.lines.proofs.ByKind.{start-in, start-out}
 use borrow.Author.Needs.{needs}
 use Rattle.lines.proofs.name_start.Statement.{statement}
 use Rattle.lines.proofs.name_start.Tie as tie
@@ -10,10 +10,10 @@ enum-told-2 : tie.Need-enum-told-2
 enum-told-2 c = search needs
 
 returns : tie.Need-returns
-returns c = start-in _ (c .enum-told .given .1)
+returns c = search (start-in, needs)
 
 returns-2 : tie.Need-returns-2
-returns-2 c = start-out _ (c .enum-told2 .given .1)
+returns-2 c = search (start-out, needs)
 
 pub name-start-spec : {M : Type 1} → statement M
 name-start-spec = tie.close (tie.spec enum-told enum-told-2 returns returns-2)

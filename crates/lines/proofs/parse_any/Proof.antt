@@ -12,8 +12,8 @@ returns c = search (first-unended, needs)
 before-requires : tie.Need-before-requires
 before-requires c κs = search needs
 
-says-requires : tie.Need-says-requires
-says-requires c κs = search needs
+parse-line-requires : tie.Need-parse-line-requires
+parse-line-requires c κs = search needs
 
 of-length-requires : tie.Need-of-length-requires
 of-length-requires c κs = search needs
@@ -24,4 +24,4 @@ returns-2 c = search (first-line, needs)
 pub parse-any-spec : {M : Type 1} → statement M
 parse-any-spec =
     tie.close
-    (tie.spec find-requires returns before-requires says-requires of-length-requires returns-2)
+    (tie.spec find-requires returns before-requires parse-line-requires of-length-requires returns-2)

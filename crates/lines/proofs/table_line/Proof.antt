@@ -1,6 +1,6 @@
 use native.Mathlib.Omega.{arith}
 use denote.Ref.{now}
-use Rattle.lines.proofs.Cuts.{ThreeAt, three-at}
+use Rattle.lines.proofs.ThreeFields.{ThreeAt, three-at}
 use Rattle.lines.proofs.Judging.{table-other, table-good, table-bad}
 use borrow.Author.Needs.{needs}
 use Rattle.lines.proofs.table_line.Statement.{statement}
@@ -21,7 +21,7 @@ enum-told : tie.Need-enum-told
 enum-told c = search needs
 
 returns : tie.Need-returns
-returns c = table-other _ _ _ (c .before .before .three-fields .ensures) (c .enum-told .given .1)
+returns c = search (table-other, needs)
 
 before-requires : tie.Need-before-requires
 before-requires c κs = search needs
@@ -30,16 +30,16 @@ add-part : tie.Need-add-part
 add-part c = let t = cut (c .before) in omega arith
 
 part-requires : tie.Need-part-requires
-part-requires c κs = search needs
+part-requires c κs = let t = cut (c .before) in (omega arith, omega arith)
 
 takes-table-requires : tie.Need-takes-table-requires
 takes-table-requires c κs = search needs
 
-add-after : tie.Need-add-after
-add-after c = let t = cut (c .before .before .before) in omega arith
+add-tail : tie.Need-add-tail
+add-tail c = let t = cut (c .before .before .before) in omega arith
 
-after-requires : tie.Need-after-requires
-after-requires c κs = search needs
+tail-requires : tie.Need-tail-requires
+tail-requires c κs = let t = cut (c .before .before .before) in omega arith
 
 judge-requires : tie.Need-judge-requires
 judge-requires c κs = search needs
@@ -51,20 +51,10 @@ enum-known-number : tie.Need-enum-known-number
 enum-known-number c = search needs
 
 returns-2 : tie.Need-returns-2
-returns-2 c =
-    let j = c .before .before .before in
-    let k = j .before .before .before .before .before in
-    table-good _ _ _ (k .before .before .before .three-fields .ensures) _ _ (k .before .first .given .1) _ _ _
-    (j .before .before .before .before .before2 .ensures .0) (j .before .before .before .part .ensures .0) (j .before .after .ensures .0) _
-    (j .before .before .takes-table .ensures) _ (j .judge .ensures) _ _ (c .before .states .given .1)
+returns-2 c = search (table-good, needs)
 
 returns-3 : tie.Need-returns-3
-returns-3 c =
-    let j = c .before .before .before in
-    let k = j .before .before .before .before .before in
-    table-bad _ _ _ (k .before .before .before .three-fields .ensures) _ _ (k .before .first .given .1) _ _ _
-    (j .before .before .before .before .before2 .ensures .0) (j .before .before .before .part .ensures .0) (j .before .after .ensures .0) _
-    (j .before .before .takes-table .ensures) _ (j .judge .ensures) _ (c .before .number .given .1)
+returns-3 c = search (table-bad, needs)
 
 pub table-line-spec : {M : Type 1} → statement M
 table-line-spec =
@@ -78,8 +68,8 @@ table-line-spec =
     add-part
     part-requires
     takes-table-requires
-    add-after
-    after-requires
+    add-tail
+    tail-requires
     judge-requires
     enum-known-states
     enum-known-number

@@ -1,5 +1,5 @@
 use native.Mathlib.Omega.{arith}
-use Rattle.lines.proofs.Cuts.{cut-one, cut-two, cut-more, cut-three}
+use Rattle.lines.proofs.ThreeFields.{cut-one, cut-two, cut-more, cut-three}
 use borrow.Author.Needs.{needs}
 use Rattle.lines.proofs.three_fields.Statement.{statement}
 use Rattle.lines.proofs.three_fields.Tie as tie
@@ -8,37 +8,31 @@ find-requires : tie.Need-find-requires
 find-requires c κs = search needs
 
 returns : tie.Need-returns
-returns c = cut-one _ _ (c .before .find .ensures) (omega arith)
+returns c = search (cut-one, needs)
 
-add-after : tie.Need-add-after
-add-after c = search needs
+add-tail : tie.Need-add-tail
+add-tail c = search needs
 
-after-requires : tie.Need-after-requires
-after-requires c κs = search needs
+tail-requires : tie.Need-tail-requires
+tail-requires c κs = search needs
 
 find-requires-2 : tie.Need-find-requires-2
 find-requires-2 c κs = search needs
 
 returns-2 : tie.Need-returns-2
-returns-2 c =
-    cut-two _ _ (c .before .before .before .before .find .ensures) (omega arith) _ (c .before .before .after .ensures .0) _
-    (c .before .find2 .ensures) (omega arith)
+returns-2 c = search (cut-two, needs)
 
-add-after-2 : tie.Need-add-after-2
-add-after-2 c = search needs
+add-tail-2 : tie.Need-add-tail-2
+add-tail-2 c = search needs
 
-after-requires-2 : tie.Need-after-requires-2
-after-requires-2 c κs = search needs
+tail-requires-2 : tie.Need-tail-requires-2
+tail-requires-2 c κs = search needs
 
 find-requires-3 : tie.Need-find-requires-3
 find-requires-3 c κs = search needs
 
 returns-3 : tie.Need-returns-3
-returns-3 c =
-    let d = c .before .before .before in
-    cut-more _ _ (d .before .before .before .before .find .ensures) (omega arith) _ (d .before .before .after .ensures .0) _
-    (d .before .find2 .ensures)
-    (omega arith) _ (c .before .before .after2 .ensures .0) _ (c .before .find3 .ensures) (omega arith)
+returns-3 c = search (cut-more, needs)
 
 add-t6 : tie.Need-add-t6
 add-t6 c = search needs
@@ -49,9 +43,9 @@ add-t8 c = search needs
 returns-4 : tie.Need-returns-4
 returns-4 c =
     let d = c .before .before .before in
-    cut-three _ _ (d .before .before .before .before .find .ensures) (omega arith) _ (d .before .before .after .ensures .0) _
+    cut-three _ _ (d .before .before .before .before .find .ensures) (omega arith) _ (d .before .before .tail .ensures) _
     (d .before .find2 .ensures)
-    (omega arith) _ (c .before .before .after2 .ensures .0) _ (c .before .find3 .ensures) (omega arith)
+    (omega arith) _ (c .before .before .tail2 .ensures) _ (c .before .find3 .ensures) (omega arith)
 
 pub three-fields-spec : {M : Type 1} → statement M
 three-fields-spec =
@@ -59,12 +53,12 @@ three-fields-spec =
     (tie.spec
     find-requires
     returns
-    add-after
-    after-requires
+    add-tail
+    tail-requires
     find-requires-2
     returns-2
-    add-after-2
-    after-requires-2
+    add-tail-2
+    tail-requires-2
     find-requires-3
     returns-3
     add-t6

@@ -1,5 +1,3 @@
-use native.Mathlib.Omega.{arith}
-use denote.Ref.{now, ptr}
 use Rattle.lines.proofs.Bytes.{before-all, before-some, before-place}
 use borrow.Author.Needs.{needs}
 use Rattle.lines.proofs.scan.before.Statement.{statement}
@@ -15,10 +13,10 @@ part-result-end : tie.Need-part-result-end
 part-result-end c = search needs
 
 returns : tie.Need-returns
-returns c = let a = c .before .before .args in (before-some (now (a .s)) (a .at), before-place (ptr (a .s)))
+returns c = search (before-some, before-place, needs)
 
 returns-2 : tie.Need-returns-2
-returns-2 c = let a = c .before .args in (before-all (now (a .s)) (a .at) (omega arith), search needs)
+returns-2 c = search (before-all, needs)
 
 pub before-spec : {M : Type 1} → statement M
 before-spec = tie.close (tie.spec sub-result part-result-start part-result-end returns returns-2)

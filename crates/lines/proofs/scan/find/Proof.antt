@@ -1,6 +1,5 @@
 use mathlib.Core.Path.{_≡_}
 use Prim.Native.Nat.{_+_, _-_, _≤_}
-use native.Mathlib.Omega.{arith}
 use lib.ListN.{length, drop}
 use Rattle.text.specs.Fields.{upto}
 use Rattle.lines.proofs.Bytes.{find-here, find-on, find-none}
@@ -15,13 +14,13 @@ abbrev μ-loop : tie.MeasureT-loop
 μ-loop s b i₀ i-end i = length s - i
 
 loop-holds : tie.Need-loop-holds Inv-loop μ-loop
-loop-holds c = (omega arith, omega arith, omega arith)
+loop-holds c = search needs
 
 shared-slice-read-if1 : tie.Need-shared-slice-read-if1 Inv-loop μ-loop
 shared-slice-read-if1 c = search needs
 
 returns : tie.Need-returns Inv-loop μ-loop
-returns c = let l = c .before .before .before .loop in find-here _ _ _ (l .i) (l .inv .1) (l .inv .2) (omega arith) (c .if1 .taken)
+returns c = search (find-here, needs)
 
 add-i : tie.Need-add-i Inv-loop μ-loop
 add-i c = search needs
@@ -30,15 +29,10 @@ loop-less : tie.Need-loop-less Inv-loop μ-loop
 loop-less c = search needs
 
 loop-again : tie.Need-loop-again Inv-loop μ-loop
-loop-again c =
-    let l = c .before .before .before .loop in (
-      omega arith,
-      omega arith,
-      find-on _ _ _ (l .i) (l .inv .1) (l .inv .2) (omega arith) (c .if1 .left),
-    )
+loop-again c = search (find-on, needs)
 
 returns-2 : tie.Need-returns-2 Inv-loop μ-loop
-returns-2 c = let l = c .before .loop in find-none _ _ _ (l .i) (l .inv .1) (l .inv .2) (omega arith)
+returns-2 c = search (find-none, needs)
 
 pub find-spec : {M : Type 1} → statement M
 find-spec =

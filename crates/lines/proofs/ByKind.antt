@@ -1,6 +1,6 @@
--- Laws for `kind_of` and `says`, by what the code knows at each return.
+-- Laws of the kinds of line, and of a line taken apart by its kind.
 use mathlib.Core.Path.{_≡_, refl, sym, ap, _∙_}
-use mathlib.Core.Bool.{Bool, true, false, _&&_, cond}
+use mathlib.Core.Bool.{Bool, true, false, cond}
 use mathlib.Core.List.{List, [], _∷_}
 use Prim.Native.Nat.{ℕ, _+_, _≤_, _<_}
 use native.Mathlib.Omega.{arith}
@@ -8,8 +8,8 @@ use lib.ListN.{length, take, drop}
 use Rattle.text.specs.declared.Place.{Place}
 use Rattle.text.specs.declared.Role.{Role}
 use Rattle.text.specs.declared.Role.the-variants.{Input, Output}
-use Rattle.text.specs.Fields.{split, upto, same, nameOk, numberOk, value}
-use Rattle.text.specs.Lines.{Entry, table, declaration, refused, tableWord, roleWord, stepWord, judged, takesTable, takesDeclaration, tableLine, declarationLine, stepLine, byKind, parse}
+use Rattle.text.specs.Fields.{split, upto, same}
+use Rattle.text.specs.Lines.{Entry, refused, tableWord, roleWord, stepWord, tableLine, declarationLine, stepLine, byKind, parse}
 use Rattle.text.proofs.Split.{upto-le, split-last, split-cut}
 use Rattle.lines.specs.Located.{placed, stepName, located, kindOf}
 use Rattle.lines.specs.declared.Parsed.{Parsed}
@@ -71,33 +71,7 @@ by-kind p k fs = go (same k tableWord) (same k (roleWord Input)) (same k (roleWo
     go false false false true = refl
     go false false false false = refl
 
--- ---- says
-
--- Neither a table nor a declaration has a place in its reply.
-table-anywhere : (a : ℕ) (p : Place) (fs : List (List ℕ)) → placed 0 (tableLine p fs) ≡ placed a (tableLine p fs)
-unfolding tableLine
-table-anywhere a p [] = refl
-table-anywhere a p (n ∷ []) = refl
-table-anywhere a p (n ∷ s ∷ []) = refl
-table-anywhere a p (n ∷ s ∷ f ∷ []) = go (takesTable p) (nameOk n) (numberOk s && numberOk f)
-  where
-    go : (b c d : Bool) → placed 0 (judged b c d (table (value s) (value f))) ≡ placed a (judged b c d (table (value s) (value f)))
-    go true true true = refl
-    go true true false = refl
-    go true false d = refl
-    go false c d = refl
-table-anywhere a p (n ∷ s ∷ f ∷ x ∷ xs) = refl
-
-declaration-anywhere : (a : ℕ) (r : Role) (p : Place) (fs : List (List ℕ)) → placed 0 (declarationLine r p fs) ≡ placed a (declarationLine r p fs)
-unfolding declarationLine
-declaration-anywhere a r p [] = refl
-declaration-anywhere a r p (n ∷ []) = go (takesDeclaration p) (nameOk n)
-  where
-    go : (b c : Bool) → placed 0 (judged b c true (declaration r n)) ≡ placed a (judged b c true (declaration r n))
-    go true true = refl
-    go true false = refl
-    go false c = refl
-declaration-anywhere a r p (n ∷ x ∷ xs) = refl
+-- ---- a line
 
 module _ (l : List ℕ) (p : Place) (tab : ℕ) (e : tab ≡ upto 9 l) where
   pub line-bare : length l ≤ tab → Refused 14 ≡ located l (parse p l)
@@ -115,20 +89,18 @@ module _ (l : List ℕ) (p : Place) (tab : ℕ) (e : tab ≡ upto 9 l) where
     unfolding parse
     says = rw (split-cut 9 l (omega arith), ← e, ← g, ← f, i) (by-kind p k (split 9 rest))
 
-    pub line-table : d ≡ TableLine → (r : Parsed) → r ≡ placed 0 (tableLine p (split 9 rest)) → r ≡ located l (parse p l)
+    pub line-table : d ≡ TableLine → (r : Parsed) → ((a : ℕ) → r ≡ placed a (tableLine p (split 9 rest))) → r ≡ located l (parse p l)
     unfolding onKind
-    line-table j r q = q ∙ table-anywhere (stepName l) p (split 9 rest) ∙ sym (ap (located l) (says ∙ ap (onKind p (split 9 rest)) j))
+    line-table j r q = q (stepName l) ∙ sym (ap (located l) (says ∙ ap (onKind p (split 9 rest)) j))
 
     pub line-declaration : (role : Role) → d ≡ DeclarationLine role → (r : Parsed)
-        → r ≡ placed 0 (declarationLine role p (split 9 rest)) → r ≡ located l (parse p l)
+        → ((a : ℕ) → r ≡ placed a (declarationLine role p (split 9 rest))) → r ≡ located l (parse p l)
     unfolding onKind
-    line-declaration role j r q =
-        q ∙ declaration-anywhere (stepName l) role p (split 9 rest) ∙ sym (ap (located l) (says ∙ ap (onKind p (split 9 rest)) j))
+    line-declaration role j r q = q (stepName l) ∙ sym (ap (located l) (says ∙ ap (onKind p (split 9 rest)) j))
 
-    pub line-step : d ≡ StepLine → (r : Parsed) → r ≡ placed (tab + 1 + upto 9 (drop (tab + 1) l) + 1) (stepLine p (split 9 (drop (tab + 1) l)))
-        → r ≡ located l (parse p l)
+    pub line-step : d ≡ StepLine → (r : Parsed) → r ≡ placed (tab + 1 + upto 9 rest + 1) (stepLine p (split 9 rest)) → r ≡ located l (parse p l)
     unfolding onKind
-    line-step j r q = q ∙ rw (← f, says, j, ← e, ← f)
+    line-step j r q = q ∙ rw (says, j, ← e, ← f)
 
     pub line-unknown : d ≡ Unknown → Refused 14 ≡ located l (parse p l)
     unfolding onKind

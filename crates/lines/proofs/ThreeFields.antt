@@ -1,4 +1,4 @@
--- Laws for `three_fields`, by what it knows at each return, and what its reply says.
+-- Laws of three fields: how they are found, and what is known where they were found.
 use mathlib.Core.Path.{_≡_, refl, sym, ap, _∙_}
 use mathlib.Core.Bool.{Bool, true, false, cond}
 use mathlib.Core.List.{List, [], _∷_}
