@@ -2,7 +2,7 @@
 use mathlib.Core.Path.{_≡_, refl, sym, ap, subst, _∙_}
 use mathlib.Core.Bool.{Bool, true, false, _&&_, _||_, cond, or-true}
 use mathlib.Core.List.{List, [], _∷_, _++_, map, map-append}
-use Prim.Native.Nat.{ℕ, zero, suc, _+_, _-_, _*_, _%_, _<_, _≤_, min}
+use Prim.Native.Nat.{ℕ, zero, suc, _+_, _-_, _*_, _/_, _%_, _<_, _≤_, min}
 use native.Mathlib.Numerals.{add-one}
 use native.Mathlib.Omega.{arith}
 use native.Mathlib.Decide.{decLt}
@@ -20,7 +20,7 @@ use Rattle.text.specs.Lookup.{nobody}
 use Rattle.lines.specs.Places.{placeIn}
 use Rattle.names.specs.declared.Name.{Name}
 use Rattle.names.specs.declared.Names.{Names}
-use Rattle.names.specs.NamePlaces.{nameAt}
+use Rattle.names.specs.NamePlaces.{textIn, lengthIn, nameAt}
 use Rattle.names.specs.Numbering.{fromEnd, key, unused, entryAt, entriesOf, signalAt, signalsOf, entryOf, tableOf, Fit, position, isOf, withEntry}
 
 -- ---- the key of a name
@@ -33,13 +33,13 @@ pub from-end-byte : (k : ℕ) (s : List ℕ) → k ≤ length s → (r : ℕ) �
 unfolding fromEnd
 from-end-byte k s h r e = e ∙ rw (le-ltb (length s) k h)
 
-pub key-made : (s : List ℕ) (a b : ℕ) → a ≡ fromEnd 1 s → b ≡ fromEnd 2 s → a % 32 + b % 32 * 32 ≡ key s
+pub key-made : (s : List ℕ) (a b : ℕ) → a ≡ fromEnd 1 s → b ≡ fromEnd 2 s → a % 32 + b % 8 * 32 ≡ key s
 unfolding key
 key-made s a b e f = rw (e, f)
 
-pub entry-made : (text size from k : ℕ) (s : List ℕ) → k ≡ key s
-    → _≡_ {A = Name} (record { text = text; length = size; from = from; key = k }) (record { text = text; length = size; from = from; key = key s })
-entry-made text size from k s e = rw e
+pub entry-made : (place from k : ℕ) (s : List ℕ) → k ≡ key s
+    → _≡_ {A = Name} (record { place = place; key = k; from = from }) (record { place = place; key = key s; from = from })
+entry-made place from k s e = rw e
 
 -- The last five bits of a letter are those of its other case.
 spelled-mod : (c : Spelling) (x : ℕ) → spelled c x % 32 ≡ x % 32
@@ -86,7 +86,9 @@ module _ (c : Spelling) where
 
   match-key : (s t : List ℕ) → matches c s t ≡ true → key s ≡ key t
   unfolding key
-  match-key s t e = rw (match-from-end s t e 1, match-from-end s t e 2)
+  match-key s t e =
+      let three : fromEnd 2 s % 8 ≡ fromEnd 2 t % 8 = omega (arith, match-from-end s t e 2) in
+      rw (match-from-end s t e 1, three)
 
   -- A test of the key before changes nothing.
   pub keyed : (s t : List ℕ) → (eqb (key s) (key t) && matches c s t) ≡ matches c s t
@@ -213,8 +215,8 @@ entry-beyond s number size h n e = e ∙ sym (List·getD-eq-default (s .entries)
 
 -- The part of an entry is the part of one that is the same.
 pub part-same : (m p : List ℕ) (x y : ℕ × ℕ) (n n′ : Name) → n ≡ n′ → (b : List ℕ) (place : ℕ × ℕ)
-    → (b ≡ nameAt m p n) × (place ≡ placeIn (textOf x y (n .text)) (textOf m p (n .text)) (n .from))
-    → (b ≡ nameAt m p n′) × (place ≡ placeIn (textOf x y (n′ .text)) (textOf m p (n′ .text)) (n′ .from))
+    → (b ≡ nameAt m p n) × (place ≡ placeIn (textOf x y (textIn n)) (textOf m p (textIn n)) (n .from))
+    → (b ≡ nameAt m p n′) × (place ≡ placeIn (textOf x y (textIn n′)) (textOf m p (textIn n′)) (n′ .from))
 part-same m p x y n n′ e b place w = rw e at w
 
 -- The name of a number in the table of some signals that stand in the texts.
@@ -310,13 +312,23 @@ module _ (m p : List ℕ) where
               }
 
 -- The entry of a name that stands at its place.
-module _ (m p : List ℕ) (text from : ℕ) (b : List ℕ) (low : from < 65536) (short : length b < 256) (there : b ≡ take (length b) (drop from (textOf m p text)))
-    (n : Name) (made : n ≡ record { text = text; length = length b % 256; from = from % 65536; key = key b }) where
-  whole : n ≡ record { text = text; length = length b; from = from; key = key b }
-  whole = made ∙ rw (let x : length b % 256 ≡ length b = omega arith in x, let y : from % 65536 ≡ from = omega arith in y)
+module _ (m p : List ℕ) (text from : ℕ) (b : List ℕ) (few : text < 4) (low : from < 65536) (short : length b < 64)
+    (there : b ≡ take (length b) (drop from (textOf m p text)))
+    (n : Name) (made : n ≡ record { place = text % 4 + length b % 64 * 4; key = key b; from = from % 65536 }) where
+  whole : n ≡ record { place = text + length b * 4; key = key b; from = from }
+  whole = made ∙ rw (
+    let x : text % 4 ≡ text = omega arith in x,
+    let y : length b % 64 ≡ length b = omega arith in y,
+    let z : from % 65536 ≡ from = omega arith in z,
+  )
 
   pub entry-signal : signalAt m p n ≡ record { name = b; text = text; from = from }
-  entry-signal = rw (whole, ← there)
+  entry-signal = rw (
+    whole,
+    let x : (text + length b * 4) % 4 ≡ text = omega arith in x,
+    let y : (text + length b * 4) / 4 ≡ length b = omega arith in y,
+    ← there,
+  )
 
   pub entry-placed : n ≡ entryOf (signalAt m p n)
   entry-placed = whole ∙ sym (ap entryOf entry-signal)

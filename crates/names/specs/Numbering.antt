@@ -10,7 +10,7 @@ use Rattle.text.specs.Fields.{matches}
 use Rattle.text.specs.Reading.{Signal}
 use Rattle.names.specs.declared.Name.{Name}
 use Rattle.names.specs.declared.Names.{Names}
-use Rattle.names.specs.NamePlaces.{nameAt}
+use Rattle.names.specs.NamePlaces.{textIn, nameAt}
 
 -- ---- the key of a name
 
@@ -18,14 +18,14 @@ use Rattle.names.specs.NamePlaces.{nameAt}
 unfoldable pub fromEnd : ℕ → List ℕ → ℕ
 fromEnd k s = cond (ltb (length s) k) 0 (getD s (length s - k) 0)
 
--- By the last five bits of the last two bytes, which the two cases of a letter share: names of different keys match in no spelling.
+-- By the last bits of the last two bytes, five and three, which the two cases of a letter share: names of different keys match in no spelling.
 unfoldable pub key : List ℕ → ℕ
-key s = fromEnd 1 s % 32 + fromEnd 2 s % 32 * 32
+key s = fromEnd 1 s % 32 + fromEnd 2 s % 8 * 32
 
 -- ---- a table of names
 
 abbrev pub unused : Name
-unused = record { text = 0; length = 0; from = 0; key = 0 }
+unused = record { place = 0; key = 0; from = 0 }
 
 -- The entries that are used.
 abbrev pub entriesOf : Names → List Name
@@ -37,14 +37,14 @@ entryAt s number = getD (s .entries) number unused
 
 -- The signal that an entry stands for; the signals of a table, by number.
 abbrev pub signalAt : List ℕ → List ℕ → Name → Signal
-signalAt m p n = record { name = nameAt m p n; text = n .text; from = n .from }
+signalAt m p n = record { name = nameAt m p n; text = textIn n; from = n .from }
 
 unfoldable pub signalsOf : List ℕ → List ℕ → Names → List Signal
 signalsOf m p s = map (signalAt m p) (entriesOf s)
 
 -- The entry of a signal, and the table of some signals: the entries that are not used are all the same.
 abbrev pub entryOf : Signal → Name
-entryOf s = record { text = s .text; length = length (s .name); from = s .from; key = key (s .name) }
+entryOf s = record { place = s .text + length (s .name) * 4; key = key (s .name); from = s .from }
 
 abbrev pub tableOf : List Signal → Names
 tableOf l = record { entries = map entryOf l ++ replicate (32 - length l) unused; count = length l }

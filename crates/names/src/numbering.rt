@@ -2,14 +2,14 @@
 ghost use mathlib.Core.Path.{_≡_};
 ghost use mathlib.Core.Bool.{_&&_};
 ghost use mathlib.Core.List.{[]};
-ghost use Prim.Native.Nat.{_%_, _<_, min};
+ghost use Prim.Native.Nat.{_+_, _*_, _%_, _<_, min};
 ghost use lib.Dec.{eqb};
 ghost use lib.ListN.{length};
 ghost use denote.Ref.{ptr};
 ghost use Rattle.lines.specs.Places.{placeIn};
 ghost use Rattle.text.specs.Fields.{matches};
 ghost use Rattle.text.specs.Reading.{textOf};
-ghost use Rattle.names.specs.NamePlaces.{nameAt};
+ghost use Rattle.names.specs.NamePlaces.{textIn, nameAt};
 ghost use Rattle.names.specs.Numbering.{fromEnd, key as keyOf, unused as noName, entryAt, entriesOf, position, isOf, tableOf, withEntry};
 use crate::Name;
 use crate::Names;
@@ -20,10 +20,9 @@ fn unused() -> Name
     ensures { λ r. ⌜ r ≡ noName ⌝ }
 {
     Name {
-        text: 0,
-        length: 0,
-        from: 0,
+        place: 0,
         key: 0,
+        from: 0,
     }
 }
 
@@ -33,49 +32,41 @@ pub fn none() -> Names
 {
     Names {
         entries: [Name {
-            text: 0,
-            length: 0,
-            from: 0,
+            place: 0,
             key: 0,
+            from: 0,
         }; 32],
         count: 0,
     }
 }
 
 // Returns the k-th byte from the end of s, the last one for 1; 0 if s is shorter.
-fn from_end(s: &[u8], k: usize) -> u16
+fn from_end(s: &[u8], k: usize) -> u8
     requires { ⌜ 0 < k ⌝ }
     ensures { λ r. ⌜ r ≡ fromEnd k (now (s .entry)) ⌝ }
 {
     if s.len() < k {
         return 0;
     }
-    wide(s[s.len() - k])
+    s[s.len() - k]
 }
 
-fn wide(x: u8) -> u16
-    ensures { λ r. ⌜ r ≡ x ⌝ }
-{
-    x as u16
-}
-
-// Returns the key of a name: the last five bits of its last two bytes, which the case of a letter does not change.
-fn key(name: &[u8]) -> u16
+// Returns the key of a name, of the last bits of its last two bytes, which the case of a letter does not change.
+fn key(name: &[u8]) -> u8
     ensures { λ r. ⌜ r ≡ keyOf (now (name .entry)) ⌝ }
 {
-    from_end(name, 1) % 32 + from_end(name, 2) % 32 * 32
+    from_end(name, 1) % 32 + from_end(name, 2) % 8 * 32
 }
 
 // Makes the entry of a name that stands in the text with this number from the byte `from` on. Of a number that is too large for an entry, the lowest
 // bits are kept.
 pub fn entry(text: u8, from: usize, name: &[u8]) -> Name
-    ensures { λ r. ⌜ r ≡ record { text = text; length = length (now (name .entry)) % 256; from = from % 65536; key = keyOf (now (name .entry)) } ⌝ }
+    ensures { λ r. ⌜ r ≡ record { place = text % 4 + length (now (name .entry)) % 64 * 4; key = keyOf (now (name .entry)); from = from % 65536 } ⌝ }
 {
     Name {
-        text,
-        length: (name.len() % 256) as u8,
-        from: (from % 65536) as u16,
+        place: text % 4 + (name.len() % 64) as u8 * 4,
         key: key(name),
+        from: (from % 65536) as u16,
     }
 }
 
@@ -86,7 +77,7 @@ fn is_of<'a>(
     spelling: Spelling,
     entry: Name,
     wanted: &[u8],
-    key: u16,
+    key: u8,
 ) -> bool
     ensures { λ r. ⌜ r ≡ (eqb (entry .key) key && matches spelling (nameAt (now (m .entry)) (now (p .entry)) entry) (now (wanted .entry))) ⌝ }
 {
@@ -139,7 +130,7 @@ fn entry_at(names: Names, number: usize) -> Name
 // Returns the name with this number as the part of its text where it stands; an empty part if no name has the number.
 pub fn part<'a>(m: &'a [u8], p: &'a [u8], names: Names, number: usize) -> &'a [u8]
     ensures { λ r. ⌜ now r ≡ nameAt (now (m .entry)) (now (p .entry)) (entryAt names number) ⌝ }
-    ensures { λ r. ⌜ ptr r ≡ placeIn (textOf (ptr (m .entry)) (ptr (p .entry)) (entryAt names number .text)) (textOf (now (m .entry)) (now (p .entry)) (entryAt names number .text)) (entryAt names number .from) ⌝ }
+    ensures { λ r. ⌜ ptr r ≡ placeIn (textOf (ptr (m .entry)) (ptr (p .entry)) (textIn (entryAt names number))) (textOf (now (m .entry)) (now (p .entry)) (textIn (entryAt names number))) (entryAt names number .from) ⌝ }
 {
     crate::bytes_of(m, p, entry_at(names, number))
 }

@@ -1,7 +1,7 @@
 -- A line of a text: what it says, and what it does to the reading.
 use mathlib.Core.Path.{_≡_, refl, sym, ap, _∙_}
 use mathlib.Core.List.{List}
-use Prim.Native.Nat.{ℕ, _+_, _-_, _%_, _≤_, _<_}
+use Prim.Native.Nat.{ℕ, _+_, _-_, _*_, _%_, _≤_, _<_}
 use native.Mathlib.Omega.{arith}
 use mir.Syntax.{w64}
 use mir.Val.{Fits}
@@ -43,14 +43,14 @@ module _ (m p : List ℕ) (text at : ℕ) (line : List ℕ) (st : State) (fields
     declaration-fits = record { fits = omega (arith, declared .within, inside .within, inside .short) }
 
     module _ (name : List ℕ) (part : name ≡ drop start line) (n : Name)
-        (made : n ≡ record { text = text; length = length name % 256; from = (at + start) % 65536; key = key name }) where
+        (made : n ≡ record { place = text % 4 + length name % 64 * 4; key = key name; from = (at + start) % 65536 }) where
       rest : name ≡ drop (length (roleWord role) + 1) line
       rest = part ∙ rw begins
 
       low : at + start < 65536
       low = omega (arith, declared .within, inside .within, inside .short)
 
-      short : length name < 256
+      short : length name < 64
       short = rw rest (omega (arith, name-short _ (declared .named)))
 
       there : name ≡ take (length name) (drop (at + start) (textOf m p text))
@@ -60,8 +60,8 @@ module _ (m p : List ℕ) (text at : ℕ) (line : List ℕ) (st : State) (fields
 
       pub declaration-entry : Entry m p name n
       declaration-entry = record {
-        bytes = ap (λ s. s .name) (entry-signal m p text (at + start) name low short there n made);
-        placed = entry-placed m p text (at + start) name low short there n made;
+        bytes = ap (λ s. s .name) (entry-signal m p text (at + start) name (inside .few) low short there n made);
+        placed = entry-placed m p text (at + start) name (inside .few) low short there n made;
       }
 
       pub enter-declaration : (c : Spelling) (cells : List ℕ) → Sound m p st (length cells) → (r : Advanced) → Declares m p c st role name n r
@@ -71,7 +71,7 @@ module _ (m p : List ℕ) (text at : ℕ) (line : List ℕ) (st : State) (fields
           let from : at + start ≡ at + length (roleWord role) + 1 = omega arith in
           record {
             sound = d .sound (length cells) ok;
-            means = d .means cells ∙ rw (entry-signal m p text (at + start) name low short there n made, declared .entry, ← rest, from);
+            means = d .means cells ∙ rw (entry-signal m p text (at + start) name (inside .few) low short there n made, declared .entry, ← rest, from);
           }
 
   module _ (from start stop to : ℕ) (f : fields ≡ Step from start stop to) where

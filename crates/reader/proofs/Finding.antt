@@ -23,7 +23,7 @@ use Rattle.names.specs.declared.Name.{Name}
 use Rattle.names.specs.declared.Names.{Names}
 use Rattle.reader.specs.declared.state.Told.{Told}
 use Rattle.reader.specs.declared.state.Both.{Both}
-use Rattle.names.specs.NamePlaces.{nameAt}
+use Rattle.names.specs.NamePlaces.{textIn, nameAt}
 use Rattle.names.specs.Numbering.{signalAt, signalsOf}
 use Rattle.names.proofs.NumberedNames.{signals-length, signal-at}
 use Rattle.reader.specs.State.{isDeclared, ReadsOne, ReadsBoth}
@@ -33,13 +33,13 @@ use Rattle.reader.specs.Places.{placed, foundIn, foundAloneIn, Held}
 
 -- ---- the place of a name
 
-pub place-held : (m p : List ℕ) (s : Names) (a : ℕ) → Held m p s a → (d n : Name) → n ≡ getD (s .entries) a d → (b : List ℕ) → b ≡ nameAt m p n
-    → _≡_ {A = Found} (record { number = 0; text = n .text; from = n .from; length = length b }) (placed (getD (signalsOf m p s) a nobody) 0)
-place-held m p s a held d n here b f =
+pub place-held : (m p : List ℕ) (s : Names) (a : ℕ) → Held m p s a → (d n : Name) → n ≡ getD (s .entries) a d → (b : List ℕ) → b ≡ nameAt m p n → (k : ℕ) → k ≡ textIn n
+    → _≡_ {A = Found} (record { number = 0; text = k; from = n .from; length = length b }) (placed (getD (signalsOf m p s) a nobody) 0)
+place-held m p s a held d n here b f k g =
     let signal : getD (signalsOf m p s) a nobody ≡ signalAt m p n =
     any-default (signalsOf m p s) a nobody (signalAt m p d) (omega (arith, held .below, signals-length m p s (held .fit)))
     ∙ signal-at m p s (held .fit) d a (held .below) ∙ ap (signalAt m p) (sym here) in
-    rw (signal, f)
+    rw (signal, f, g)
 
 -- ---- whether a signal is declared
 

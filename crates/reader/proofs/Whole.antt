@@ -60,9 +60,9 @@ module _ (bytes : List ℕ) (at : ℕ) (u : List ℕ) (rest : u ≡ drop at byte
     line-length : length line ≡ e
     line-length = ap length line-is ∙ length-take-le e (drop at bytes) (omega (arith, line-ends, length-drop at bytes))
 
-    pub line-says : (m p : List ℕ) (text : ℕ) → bytes ≡ textOf m p text → length (textOf m p text) ≤ 65536 → Says m p text at line place fields
-    line-says m p text same short = record {
-      inside = record { short = short; within = rw (← same, line-length) line-ends; there = rw (← same, line-length) line-is };
+    pub line-says : (m p : List ℕ) (text : ℕ) → bytes ≡ textOf m p text → length (textOf m p text) ≤ 65536 → text < 4 → Says m p text at line place fields
+    line-says m p text same short few = record {
+      inside = record { few = few; short = short; within = rw (← same, line-length) line-ends; there = rw (← same, line-length) line-is };
       told = rw line-is (taken-line .told);
     }
 

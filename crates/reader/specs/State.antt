@@ -85,6 +85,7 @@ pub record Steps (m p : List ℕ) (st : State) (cells : List ℕ) (from : ℕ) (
 
 -- A line of a text of 65,536 bytes at most, its LF not included, from the byte `at` on.
 pub record InText (m p : List ℕ) (text at : ℕ) (line : List ℕ) : Type 0 where
+  pub few : text < 4
   pub short : length (textOf m p text) ≤ 65536
   pub within : at + length line < length (textOf m p text)
   pub there : line ≡ take (length line) (drop at (textOf m p text))

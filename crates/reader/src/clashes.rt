@@ -45,7 +45,7 @@ fn breaks(byte: u8) -> usize
 fn declared_at<'a>(m: &'a [u8], p: &'a [u8], name: Name) -> Declaration
     ensures { λ r. ⌜ r ≡ declaredAt (now (m .entry)) (now (p .entry)) (signalAt (now (m .entry)) (now (p .entry)) name) ⌝ }
 {
-    let text = name.text as u32;
+    let text = names::text_in(name);
     let line = line_of(names::text_of(m, p, text), name.from as usize);
     Declaration { text, line }
 }

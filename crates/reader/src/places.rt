@@ -37,7 +37,7 @@ fn place_of<'a>(m: &'a [u8], p: &'a [u8], signals: Names, signal: usize) -> Foun
     let bytes = names::bytes_of(m, p, name);
     Found {
         number: 0,
-        text: name.text as u32,
+        text: names::text_in(name),
         from,
         length: bytes.len(),
     }

@@ -1,7 +1,7 @@
 // Reads a text alone, or two texts together, to the end.
 ghost use mathlib.Core.Path.{_≡_};
 ghost use mathlib.Core.Bool.{true};
-ghost use Prim.Native.Nat.{_≤_};
+ghost use Prim.Native.Nat.{_≤_, _<_};
 ghost use lib.ListN.{length};
 ghost use Rattle.text.specs.Reading.{textOf};
 ghost use Rattle.names.specs.Numbering.{Fit};
@@ -65,6 +65,7 @@ fn read_lines<'a>(
     requires { ⌜ Fit (now m) (now p) signals ⌝ }
     requires { ⌜ Blank (now cells) ⌝ }
     requires { ⌜ length (textOf (now m) (now p) text) ≤ 65536 ⌝ }
+    requires { ⌜ text < 4 ⌝ }
     ensures { λ r. ⌜ ReadsLines (now (m .entry)) (now (p .entry)) text spelling signals (length (now (cells .entry))) r (now (cells .exit)) ⌝ }
 {
     let bytes = names::text_of(m, p, text as u32);
@@ -109,6 +110,7 @@ fn read<'a>(
     cells: &mut [u16],
 ) -> Told
     requires { ⌜ Fit (now m) (now p) signals ⌝ }
+    requires { ⌜ text < 4 ⌝ }
     ensures { λ r. ⌜ Reads (now (m .entry)) (now (p .entry)) text spelling signals (length (now (cells .entry))) r (now (cells .exit)) ⌝ }
 {
     table::clear(cells);

@@ -2,8 +2,8 @@ use borrow.Author.Needs.{needs}
 use Rattle.reader.proofs.clashes.declared_at.Statement.{statement}
 use Rattle.reader.proofs.clashes.declared_at.Tie as tie
 
-cast-text : tie.Need-cast-text
-cast-text c = search needs
+text-in-requires : tie.Need-text-in-requires
+text-in-requires c κs = search needs
 
 text-of-requires : tie.Need-text-of-requires
 text-of-requires c κs = search needs
@@ -18,4 +18,5 @@ returns : tie.Need-returns
 returns c = cc
 
 pub declared-at-spec : {M : Type 1} → statement M
-declared-at-spec = tie.close (tie.spec cast-text text-of-requires cast-line-of line-of-requires returns)
+declared-at-spec =
+    tie.close (tie.spec text-in-requires text-of-requires cast-line-of line-of-requires returns)

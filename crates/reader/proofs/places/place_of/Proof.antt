@@ -1,5 +1,5 @@
-use mathlib.Core.Path.{refl}
 use Rattle.reader.proofs.Finding.{place-held}
+use mathlib.Core.Path.{refl}
 use borrow.Author.Needs.{needs}
 use Rattle.reader.proofs.places.place_of.Statement.{statement}
 use Rattle.reader.proofs.places.place_of.Tie as tie
@@ -16,12 +16,13 @@ cast-from c = search needs
 bytes-of-requires : tie.Need-bytes-of-requires
 bytes-of-requires c κs = search needs
 
-cast-t13 : tie.Need-cast-t13
-cast-t13 c = search needs
+text-in-requires : tie.Need-text-in-requires
+text-in-requires c κs = search needs
 
 returns : tie.Need-returns
-returns c = place-held _ _ _ _ (search needs) _ _ refl _ (c .before .bytes-of .ensures .0)
+returns c = place-held _ _ _ _ (c .before .before .before .before .before .before .before .pre) _ _ refl _ (c .before .bytes-of .ensures .0) _ (c .text-in .ensures)
 
 pub place-of-spec : {M : Type 1} → statement M
 place-of-spec =
-    tie.close (tie.spec mul-name array-copy-out-name cast-from bytes-of-requires cast-t13 returns)
+    tie.close
+    (tie.spec mul-name array-copy-out-name cast-from bytes-of-requires text-in-requires returns)

@@ -25,7 +25,7 @@ ends c = line-ends _ _ _ (c .before .before .before .before .after .ensures .0) 
 
 -- The text is short.
 short : (c : tie.After-known-told Inv-loop μ-loop) → length (now (c .before .before .before .before .before .before .before .before .text-of .result)) ≤ 65536
-short c = rw (c .before .before .before .before .before .before .before .before .text-of .ensures .0) (c .before .before .before .before .before .before .before .before .before .before .before .before .pre .1 .1)
+short c = rw (c .before .before .before .before .before .before .before .before .text-of .ensures .0) (c .before .before .before .before .before .before .before .before .before .before .before .before .pre .1 .1 .0)
 
 text-of-requires : tie.Need-text-of-requires Inv-loop μ-loop
 text-of-requires c κs = search needs
@@ -68,7 +68,7 @@ before-requires c κs = search needs
 
 enter-requires : tie.Need-enter-requires Inv-loop μ-loop
 enter-requires c κs =
-    (search needs, line-says _ _ _ (c .before .before .before .before .before .before .after .ensures .0) _ _ (c .before .before .before .before .before .parse .ensures) _ _ (c .before .before .before .parsed .given .1) _ (c .before .before2 .ensures .0) _ _ _ (c .before .before .before .before .before .before .before .before .before .before .text-of .ensures .0) (search needs))
+    (search needs, line-says _ _ _ (c .before .before .before .before .before .before .after .ensures .0) _ _ (c .before .before .before .before .before .parse .ensures) _ _ (c .before .before .before .parsed .given .1) _ (c .before .before2 .ensures .0) _ _ _ (c .before .before .before .before .before .before .before .before .before .before .text-of .ensures .0) (search needs) (c .before .before .before .before .before .before .before .before .before .before .before .before .before .before .pre .1 .1 .1))
 
 refuse-requires-2 : tie.Need-refuse-requires-2 Inv-loop μ-loop
 refuse-requires-2 c κs = search needs
