@@ -1,25 +1,25 @@
 -- Laws of a step line that is taken apart in one pass, and of the first line of a text.
 use mathlib.Core.Path.{_≡_, refl, sym, ap, _∙_}
-use mathlib.Core.Bool.{Bool, true, false, not, cond}
+use mathlib.Core.Bool.{Bool, true, false, not}
 use mathlib.Core.List.{List, [], _∷_, _++_, append-assoc}
-use Prim.Native.Nat.{ℕ, suc, _+_, _≤_, _<_}
+use Prim.Native.Nat.{ℕ, _+_, _≤_, _<_}
 use native.Mathlib.Numerals.{add-one}
 use native.Mathlib.Omega.{arith}
 use native.Mathlib.Decide.{decLt}
-use lib.Dec.{eqb}
+use lib.Dec.{eqb, ltb}
 use lib.ListN.{length, take, drop, getD, length-append, length-take, take-append-drop}
 use lib.Seq.{split-at, length-take-le, take-append-seam}
-use borrow.Author.Tests.{eq-eqb, lt-ltb, le-ltb, not-false}
+use borrow.Author.Tests.{lt-ltb, le-ltb, ltb-true, eqb-true, not-false}
 use Rattle.text.specs.declared.Place.{Place}
 use Rattle.text.specs.Fields.{split, upto, matches, same, nameByte, nameOk, digitByte, value, numberOk}
 use Rattle.text.specs.Lines.{step, refused, stepWord, takesStep, stepLine, byKind, parse}
 use Rattle.text.proofs.Names.{same-eq}
-use Rattle.text.proofs.Split.{Free, free-cons, free-append, free-all, split-join, split-last}
-use Rattle.lines.proofs.NameRule.{name-bytes}
+use Rattle.text.proofs.Split.{Free, upto-le, free-cons, free-append, free-all, split-last, split-join, split-some, split-more}
+use Rattle.lines.proofs.NameRule.{both, name-bytes}
 use Rattle.lines.proofs.NumberRule.{number-digits}
 use Rattle.lines.proofs.Meaning.{refused-reply}
 use Rattle.lines.specs.Located.{stepName, located, measured, firstLine}
-use Rattle.lines.specs.OnePass.{StepFirst, stepRead}
+use Rattle.lines.specs.OnePass.{isAt, StepFirst, stepRead}
 use Rattle.lines.specs.declared.Record.{Record}
 use Rattle.lines.specs.declared.Record.the-variants.{Step as StepRecord}
 use Rattle.lines.specs.declared.one_pass.Reading.{Reading}
@@ -30,29 +30,40 @@ use Rattle.lines.specs.declared.Line.the-variants.{Refused as NoLine}
 use Rattle.lines.specs.declared.Parsed.{Parsed}
 use Rattle.lines.specs.declared.Parsed.the-variants.{Fields, Refused}
 
+-- ---- a byte
+
+module _ (s : List ℕ) (i b : ℕ) where
+  pub not-there : length s ≤ i → false ≡ isAt s i b
+  unfolding isAt
+  not-there h = rw (le-ltb i (length s) h)
+
+  pub there : i < length s → eqb (getD s i 0) b ≡ isAt s i b
+  unfolding isAt
+  there h = rw (lt-ltb i (length s) h)
+
+  pub is-at : (r : Bool) → r ≡ isAt s i b → not r ≡ false → (i < length s) × (getD s i 0 ≡ b)
+  unfolding isAt
+  is-at r e h =
+      let k = both (ltb i (length s)) (eqb (getD s i 0) b) (sym e ∙ not-false r h) in
+      (ltb-true i (length s) (k .0), eqb-true (getD s i 0) b (k .1))
+
 -- ---- the line of a step
 
 -- A number of w digits before the byte b.
 pub record NumberBefore (b : ℕ) (s : List ℕ) (v w : ℕ) : Type 0 where
-  pub within : w < length s
-  pub ends : getD s w 0 ≡ b
+  pub ends : (w < length s) × (getD s w 0 ≡ b)
   pub rule : (numberOk (take w s) ≡ true) × (value (take w s) ≡ v)
 
 -- A name of w bytes before the byte b.
 pub record NameBefore (b : ℕ) (s : List ℕ) (w : ℕ) : Type 0 where
-  pub within : w < length s
-  pub ends : getD s w 0 ≡ b
+  pub ends : (w < length s) × (getD s w 0 ≡ b)
   pub rule : nameOk (take w s) ≡ true
 
 upto-join : (b : ℕ) (s t : List ℕ) → Free b s → upto b (s ++ b ∷ t) ≡ length s
-unfolding upto
-upto-join b [] t e = simp (eq-eqb b b refl)
-upto-join b (x ∷ s) t e = go (eqb x b) (upto-join b s t) e
-  where
-    go : (k : Bool) → (Free b s → upto b (s ++ b ∷ t) ≡ length s) → cond k 0 (suc (upto b s)) ≡ suc (length s)
-        → cond k 0 (suc (upto b (s ++ b ∷ t))) ≡ suc (length s)
-    go true ih e = absurd (omega arith)
-    go false ih e = ap suc (ih (omega arith))
+upto-join b s t e =
+    let r = split-some b t in
+    let c = split-more b (s ++ b ∷ t) s (r .0) (r .1) (split-join b s t e ∙ ap (λ l. s ∷ l) (r .2)) in
+    sym (ap length (c .first) ∙ length-take-le (upto b (s ++ b ∷ t)) (s ++ b ∷ t) (upto-le b (s ++ b ∷ t)))
 
 -- A step line with the fields f, n and t, without its LF.
 stepText : List ℕ → List ℕ → List ℕ → List ℕ
@@ -119,23 +130,23 @@ module _ (s k : List ℕ) (kind : k ≡ take 5 s) (r : Bool) (e : r ≡ same k (
     cut : s ≡ whole ++ 10 ∷ drop (n + 1) last
     unfolding stepText
     cut =
-        let g : last ≡ take n last ++ 10 ∷ drop (n + 1) last = before-byte 10 last n (third .within) (third .ends) in
-        let h : named ≡ take w named ++ 9 ∷ last = before-byte 9 named w (second .within) (second .ends) ∙ rw (← x) in
-        let i : fields ≡ take a fields ++ 9 ∷ named = before-byte 9 fields a (first .within) (first .ends) ∙ rw (← v) in
+        let g : last ≡ take n last ++ 10 ∷ drop (n + 1) last = before-byte 10 last n (third .ends .0) (third .ends .1) in
+        let h : named ≡ take w named ++ 9 ∷ last = before-byte 9 named w (second .ends .0) (second .ends .1) ∙ rw (← x) in
+        let i : fields ≡ take a fields ++ 9 ∷ named = before-byte 9 fields a (first .ends .0) (first .ends .1) ∙ rw (← v) in
         sym (take-append-drop 5 s) ∙ ap (λ l. l ++ drop 5 s) word ∙ ap (λ l. stepWord ++ 9 ∷ l)
         (sym u ∙ i ∙ ap (λ l. take a fields ++ 9 ∷ l) (h ∙ ap (λ l. take w named ++ 9 ∷ l) g)
         ∙ simp append-assoc)
 
     width-from : length (take a fields) ≡ a
-    width-from = length-take-le a fields (omega (arith, first .within))
+    width-from = length-take-le a fields (omega (arith, first .ends .0))
 
     width-name : length (take w named) ≡ w
-    width-name = length-take-le w named (omega (arith, second .within))
+    width-name = length-take-le w named (omega (arith, second .ends .0))
 
     lengths : length whole ≡ a + 6 + w + 1 + n
     lengths =
         long (take a fields) (take w named) (take n last) (first .rule .0) (second .rule) (third .rule .0)
-        ∙ rw (width-from, width-name, length-take-le n last (omega (arith, third .within)))
+        ∙ rw (width-from, width-name, length-take-le n last (omega (arith, third .ends .0)))
 
     the-line : take (a + 6 + w + 1 + n) s ≡ whole
     the-line = rw (← lengths, cut) (take-append-seam whole (10 ∷ drop (n + 1) last))

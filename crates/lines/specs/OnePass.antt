@@ -1,9 +1,10 @@
 -- What is known of a step line that was taken apart in one pass.
 use mathlib.Core.Path.{_≡_}
-use mathlib.Core.Bool.{true}
+use mathlib.Core.Bool.{Bool, true, _&&_}
 use mathlib.Core.List.{List}
 use Prim.Native.Nat.{ℕ, _<_}
-use lib.ListN.{length, take}
+use lib.Dec.{eqb, ltb}
+use lib.ListN.{length, take, getD}
 use Rattle.text.specs.declared.Place.{Place}
 use Rattle.text.specs.Fields.{upto}
 use Rattle.text.specs.Lines.{takesStep, parse}
@@ -12,6 +13,10 @@ use Rattle.lines.specs.declared.Parsed.the-variants.{Fields}
 use Rattle.lines.specs.declared.one_pass.Reading.{Reading}
 use Rattle.lines.specs.declared.one_pass.Reading.the-variants.{Step, Other}
 use Rattle.lines.specs.Located.{located}
+
+-- s has the byte b at i.
+unfoldable pub isAt : List ℕ → ℕ → ℕ → Bool
+isAt s i b = ltb i (length s) && eqb (getD s i 0) b
 
 -- The first line of s has n bytes, and is this step wherever a step may stand.
 pub record StepFirst (s : List ℕ) (from start end to n : ℕ) : Type 0 where

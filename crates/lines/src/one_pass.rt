@@ -1,6 +1,7 @@
 // Takes apart a step line that keeps every rule, in one pass over its bytes: nearly all lines of a text are such. Any other line is left to the
 // functions that know the order of the refusals.
-ghost use Rattle.lines.specs.OnePass.{stepRead};
+ghost use mathlib.Core.Path.{_≡_};
+ghost use Rattle.lines.specs.OnePass.{isAt, stepRead};
 use crate::scan;
 use crate::tokens;
 use crate::tokens::Leading;
@@ -15,6 +16,16 @@ pub enum Reading {
         length: usize,
     },
     Other,
+}
+
+// Tells whether s has the byte b at `at`. It is a function since the compiler keeps the loops of `step_line` in registers then.
+fn is_at(s: &[u8], at: usize, b: u8) -> bool
+    ensures { λ r. ⌜ r ≡ isAt (now (s .entry)) at b ⌝ }
+{
+    if s.len() <= at {
+        return false;
+    }
+    s[at] == b
 }
 
 // Takes apart the step line at the start of s; gives `Other` if there is none that keeps every rule.
@@ -32,10 +43,7 @@ pub fn step_line(s: &[u8]) -> Reading
     else {
         return Reading::Other;
     };
-    if fields.len() <= first {
-        return Reading::Other;
-    }
-    if fields[first] != b'\t' {
+    if !is_at(fields, first, b'\t') {
         return Reading::Other;
     }
     let named = scan::tail(fields, first + 1);
@@ -43,10 +51,7 @@ pub fn step_line(s: &[u8]) -> Reading
     if second == 0 {
         return Reading::Other;
     }
-    if named.len() <= second {
-        return Reading::Other;
-    }
-    if named[second] != b'\t' {
+    if !is_at(named, second, b'\t') {
         return Reading::Other;
     }
     let last = scan::tail(named, second + 1);
@@ -57,10 +62,7 @@ pub fn step_line(s: &[u8]) -> Reading
     else {
         return Reading::Other;
     };
-    if last.len() <= third {
-        return Reading::Other;
-    }
-    if last[third] != b'\n' {
+    if !is_at(last, third, b'\n') {
         return Reading::Other;
     }
     let start = first + 6;

@@ -28,8 +28,8 @@ fn least(a: usize, b: usize) -> usize
     b
 }
 
-// Tells whether a byte may stand in a name: an ASCII letter, a digit or an underscore. Small letters, the most frequent, are told by the first two
-// tests; the compiler would make the cases of a `match` one test of all.
+// Tells whether a byte may stand in a name: an ASCII letter, a digit or an underscore. Small letters, the most frequent, take two tests. The compiler
+// would make one long test of the cases of a `match`.
 fn is_name_byte(x: u8) -> bool
     ensures { λ r. ⌜ r ≡ nameByte x ⌝ }
 {
