@@ -7,6 +7,7 @@ use Rattle.text.specs.declared.Spelling.the-variants.{Exact}
 use Rattle.text.specs.Reading.{readBoth, cellsFirst, cellsSecond}
 use Rattle.files.specs.declared.File.{File}
 use Rattle.files.specs.declared.File.the-variants.{Bytes, Unreadable}
+use Rattle.report.specs.declared.programs.FilesRead.{FilesRead}
 use Rattle.report.specs.Lines.{refusalText}
 use Rattle.report.specs.Report.{Buffers, reportText, reportBuffers}
 use Rattle.report.specs.Listing.{listingText}
@@ -16,6 +17,11 @@ abbrev pub byFiles : {A : Type 0} → File → File → (ℕ → A) → (ℕ →
 byFiles Unreadable second unreadable read = unreadable 1
 byFiles (Bytes i) Unreadable unreadable read = unreadable 2
 byFiles (Bytes i) (Bytes j) unreadable read = read i j
+
+-- The reading of two files as the code holds it: which cannot be read (0 for none of the two), and how many bytes were read of each.
+abbrev pub filesRead : File → File → FilesRead
+filesRead first second =
+    byFiles first second (λ file. record { unreadable = file; first = 0; second = 0 }) (λ i j. record { unreadable = 0; first = i; second = j })
 
 -- ---- the program `sequencer`
 

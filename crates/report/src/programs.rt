@@ -4,10 +4,53 @@ ghost use mathlib.Core.Path.{_≡_};
 ghost use Prim.Native.Nat.{_≤_};
 ghost use lib.ListN.{length};
 ghost use Rattle.emit.specs.Buffer.{after, stored};
-ghost use Rattle.report.specs.Programs.{programText, programBuffers, clashesText, clashesCells};
+ghost use Rattle.report.specs.Lines.{refusalText};
+ghost use Rattle.report.specs.Programs.{filesRead, programText, programBuffers, clashesText, clashesCells};
 use crate::listing;
 use crate::printout;
 use files::File;
+
+// Result of reading two files: which is the first that cannot be read (1 or 2; 0 if both were read), and how many bytes were read of each (0 unless
+// both were read).
+struct FilesRead {
+    pub unreadable: u32,
+    pub first: usize,
+    pub second: usize,
+}
+
+// Puts the results of reading two files together.
+fn both(first: File, second: File) -> FilesRead
+    ensures { λ r. ⌜ r ≡ filesRead first second ⌝ }
+{
+    let File::Bytes(i) = first else {
+        return FilesRead {
+            unreadable: 1,
+            first: 0,
+            second: 0,
+        };
+    };
+    let File::Bytes(j) = second else {
+        return FilesRead {
+            unreadable: 2,
+            first: 0,
+            second: 0,
+        };
+    };
+    FilesRead {
+        unreadable: 0,
+        first: i,
+        second: j,
+    }
+}
+
+// Puts the line of refusal 24 at the start of the buffer: the file cannot be read.
+fn unreadable_line(out: &mut [u8], file: u32) -> usize
+    ensures { λ r. ⌜ r ≡ after (length (now (out .entry))) 0 (refusalText file 24 0) ⌝ }
+    ensures { λ r. ⌜ now (out .exit) ≡ stored (now (out .entry)) 0 (refusalText file 24 0) ⌝ }
+    ensures { λ r. ⌜ r ≤ 26 ⌝ }
+{
+    printout::refusal_line(out, 0, file, 24, 0)
+}
 
 // Writes all that the program prints, by the results of reading its two files: refusal 24 for the first unreadable one, else the report. Each text
 // stands at the start of its buffer. Returns the place after it, 65,608 at most.
@@ -27,14 +70,12 @@ pub fn sequencer_output<'a>(
     ensures { λ _. ⌜ (now (cm .exit), now (cp .exit), now (cells .exit), now (flags .exit)) ≡ programBuffers first second (now (m .entry)) (now (p .entry)) (now (cm .entry)) (now (cp .entry)) (now (cells .entry)) (now (flags .entry)) ⌝ }
     ensures { λ r. ⌜ r ≤ 65608 ⌝ }
 {
-    let File::Bytes(i) = first else {
-        return printout::refusal_line(out, 0, 1, 24, 0);
-    };
-    let File::Bytes(j) = second else {
-        return printout::refusal_line(out, 0, 2, 24, 0);
-    };
-    let module = lines::before(m, i);
-    let plan = lines::before(p, j);
+    let read = both(first, second);
+    if read.unreadable != 0 {
+        return unreadable_line(out, read.unreadable);
+    }
+    let module = lines::before(m, read.first);
+    let plan = lines::before(p, read.second);
     crate::report(module, plan, cm, cp, cells, flags, out)
 }
 
@@ -54,13 +95,11 @@ pub fn clashes_output<'a>(
     ensures { λ _. ⌜ (now (cm .exit), now (cp .exit)) ≡ clashesCells first second (now (m .entry)) (now (p .entry)) (now (cm .entry)) (now (cp .entry)) ⌝ }
     ensures { λ r. ⌜ r ≤ 768 ⌝ }
 {
-    let File::Bytes(i) = first else {
-        return printout::refusal_line(out, 0, 1, 24, 0);
-    };
-    let File::Bytes(j) = second else {
-        return printout::refusal_line(out, 0, 2, 24, 0);
-    };
-    let module = lines::before(m, i);
-    let plan = lines::before(p, j);
+    let read = both(first, second);
+    if read.unreadable != 0 {
+        return unreadable_line(out, read.unreadable);
+    }
+    let module = lines::before(m, read.first);
+    let plan = lines::before(p, read.second);
     listing::list(module, plan, cm, cp, out)
 }

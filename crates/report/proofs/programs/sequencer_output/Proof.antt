@@ -1,16 +1,13 @@
-use Rattle.report.proofs.Files.{first-unread, second-unread, both-read}
+use Rattle.report.proofs.Files.{unread, both-read}
 use borrow.Author.Needs.{needs}
 use Rattle.report.proofs.programs.sequencer_output.Statement.{statement}
 use Rattle.report.proofs.programs.sequencer_output.Tie as tie
 
-enum-known-first : tie.Need-enum-known-first
-enum-known-first c = search needs
+both-requires : tie.Need-both-requires
+both-requires c κs = search needs
 
-enum-told : tie.Need-enum-told
-enum-told c = search needs
-
-refusal-line-requires : tie.Need-refusal-line-requires
-refusal-line-requires c κs = search needs
+unreadable-line-requires : tie.Need-unreadable-line-requires
+unreadable-line-requires c κs = search needs
 
 same-length : tie.Need-same-length
 same-length c = search needs
@@ -18,25 +15,8 @@ same-length c = search needs
 returns : tie.Need-returns
 returns c =
     let f = c .before .before in
-    first-unread _ _ _ _ _ _ _ _ _ _ _ (f .before .before .enum-told .given .1) (f .refusal-line .ensures)
-
-enum-known-second : tie.Need-enum-known-second
-enum-known-second c = search needs
-
-enum-told-2 : tie.Need-enum-told-2
-enum-told-2 c = search needs
-
-refusal-line-requires-2 : tie.Need-refusal-line-requires-2
-refusal-line-requires-2 c κs = search needs
-
-same-length-2 : tie.Need-same-length-2
-same-length-2 c = search needs
-
-returns-2 : tie.Need-returns-2
-returns-2 c =
-    let f = c .before .before in
     let t = f .before .before in
-    second-unread _ _ _ _ _ _ _ _ _ _ _ _ (t .before .before .before .first .given .1) (t .enum-told2 .given .1) (f .refusal-line2 .ensures)
+    unread _ _ _ _ _ _ _ _ _ _ _ _ (t .before .before .both .ensures) (t .if1 .taken) (f .unreadable-line .ensures)
 
 before-requires : tie.Need-before-requires
 before-requires c κs = search needs
@@ -46,6 +26,9 @@ before-requires-2 c κs = search needs
 
 report-requires : tie.Need-report-requires
 report-requires c κs = search needs
+
+same-length-2 : tie.Need-same-length-2
+same-length-2 c = search needs
 
 same-length-3 : tie.Need-same-length-3
 same-length-3 c = search needs
@@ -59,37 +42,28 @@ same-length-5 c = search needs
 same-length-6 : tie.Need-same-length-6
 same-length-6 c = search needs
 
-same-length-7 : tie.Need-same-length-7
-same-length-7 c = search needs
-
-returns-3 : tie.Need-returns-3
-returns-3 c =
+returns-2 : tie.Need-returns-2
+returns-2 c =
     let f = c .before .before .before .before .before .before .before .before .before .before in
     let q = f .before .before .before .before .before .before in
-    let s = q .before .before .before in
-    both-read _ _ _ _ _ _ _ _ _ _ _ _ _ (s .before .before .before .first .given .1) (s .second .given .1) _ _ (q .before .before2 .ensures .0)
-    (q .before3 .ensures .0) _ (f .report .ensures)
+    let t = q .before .before in
+    both-read _ _ _ _ _ _ _ _ _ _ _ _ (t .before .before .both .ensures) (t .if1 .left) _ _ (q .before .before2 .ensures .0) (q .before3 .ensures .0) _
+    (f .report .ensures)
 
 pub sequencer-output-spec : {M : Type 1} → statement M
 sequencer-output-spec =
     tie.close
     (tie.spec
-    enum-known-first
-    enum-told
-    refusal-line-requires
+    both-requires
+    unreadable-line-requires
     same-length
     returns
-    enum-known-second
-    enum-told-2
-    refusal-line-requires-2
-    same-length-2
-    returns-2
     before-requires
     before-requires-2
     report-requires
+    same-length-2
     same-length-3
     same-length-4
     same-length-5
     same-length-6
-    same-length-7
-    returns-3)
+    returns-2)
