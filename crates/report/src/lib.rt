@@ -1,6 +1,7 @@
 // Makes every byte that the program prints for two texts (document 01, "The program and one full run"), in a lent buffer.
 ghost use mathlib.Core.Path.{_≡_};
-ghost use mathlib.Core.Bool.{true, cond};
+ghost use mathlib.Core.Bool.{true, false, cond};
+ghost use mathlib.Core.List.{_++_};
 ghost use Prim.Native.Nat.{_*_, _≤_};
 ghost use lib.ListN.{length, take, replicate};
 ghost use Rattle.theory.specs.Table.{table};
@@ -59,7 +60,28 @@ fn refuse(out: &mut [u8], r: Refusal) -> Answer
     Answer { refused: true, end }
 }
 
-// The six lines and the text, which is made before anything is printed; or why there is no text.
+// Puts the six lines and a text behind them.
+fn tell_text(
+    header: Automaton,
+    rounds: usize,
+    cells: &[u16],
+    flags: &[u8],
+    text: &[u8],
+    out: &mut [u8],
+) -> Answer
+    ensures { λ r. ⌜ r .refused ≡ false ⌝ }
+    ensures { λ r. ⌜ r .end ≡ after (length (now (out .entry))) 0 (sixOf true header rounds (now (cells .entry)) (now (flags .entry)) ++ now (text .entry)) ⌝ }
+    ensures { λ r. ⌜ now (out .exit) ≡ stored (now (out .entry)) 0 (sixOf true header rounds (now (cells .entry)) (now (flags .entry)) ++ now (text .entry)) ⌝ }
+{
+    let at = six_lines(out, true, header, rounds, cells, flags);
+    let end = emit::put(out, at, text);
+    Answer {
+        refused: false,
+        end,
+    }
+}
+
+// Puts the six lines and the text, which is made before anything is printed; or why there is no text.
 fn put_text(
     names: &[&[u8]],
     header: Automaton,
@@ -74,19 +96,12 @@ fn put_text(
 {
     match writer::write(header, cells, b"sequencer", names, text) {
         Printed::Refused(r) => refuse(out, r),
-        Printed::Length(n) => {
-            let at = six_lines(out, true, header, rounds, cells, flags);
-            let end = emit::put(out, at, &text[0..n]);
-            Answer {
-                refused: false,
-                end,
-            }
-        }
+        Printed::Length(n) => tell_text(header, rounds, cells, flags, &text[0..n], out),
     }
 }
 
-// The same with a buffer of its own for the text.
-fn with_text(
+// Lends room for the longest text.
+fn with_long_text(
     names: &[&[u8]],
     header: Automaton,
     rounds: usize,
@@ -100,7 +115,41 @@ fn with_text(
     put_text(names, header, rounds, cells, flags, &mut text, out)
 }
 
-// What is printed of the maker's reply.
+// Puts the six lines and the text, which is made in room that may be too short for it: then in longer room.
+fn try_text(
+    names: &[&[u8]],
+    header: Automaton,
+    rounds: usize,
+    cells: &[u16],
+    flags: &[u8],
+    text: &mut [u8],
+    out: &mut [u8],
+) -> Answer
+    requires { ⌜ length (now text) ≤ 65536 ⌝ }
+    ensures { λ r. ⌜ Answers (first (textChecks (texts (now (names .entry))) (table header (now (cells .entry))))) (withText (texts (now (names .entry))) (table header (now (cells .entry))) (sixOf true header rounds (now (cells .entry)) (now (flags .entry)))) (now (out .entry)) (r .refused) (r .end) (now (out .exit)) ⌝ }
+{
+    let Printed::Length(n) = writer::write(header, cells, b"sequencer", names, text) else {
+        return with_long_text(names, header, rounds, cells, flags, out);
+    };
+    tell_text(header, rounds, cells, flags, &text[0..n], out)
+}
+
+// Lends room for a text of a few dozen lines: blanking room for the longest takes longer than all else for most runs.
+fn with_text(
+    names: &[&[u8]],
+    header: Automaton,
+    rounds: usize,
+    cells: &[u16],
+    flags: &[u8],
+    out: &mut [u8],
+) -> Answer
+    ensures { λ r. ⌜ Answers (first (textChecks (texts (now (names .entry))) (table header (now (cells .entry))))) (withText (texts (now (names .entry))) (table header (now (cells .entry))) (sixOf true header rounds (now (cells .entry)) (now (flags .entry)))) (now (out .entry)) (r .refused) (r .end) (now (out .exit)) ⌝ }
+{
+    let mut text = [0u8; 4096];
+    try_text(names, header, rounds, cells, flags, &mut text, out)
+}
+
+// Tells of the maker's reply.
 fn tell(names: &[&[u8]], reply: Synthesis, cells: &[u16], flags: &[u8], out: &mut [u8]) -> Answer
     ensures { λ r. ⌜ Answers (replyChecked (texts (now (names .entry))) reply (now (cells .entry))) (replyText (texts (now (names .entry))) reply (now (cells .entry)) (now (flags .entry))) (now (out .entry)) (r .refused) (r .end) (now (out .exit)) ⌝ }
 {

@@ -1,6 +1,6 @@
 -- The writer's checks, the text, and the reply.
 use mathlib.Core.Path.{_≡_, refl, sym, ap, _∙_}
-use mathlib.Core.Bool.{true, false, _||_, or-true}
+use mathlib.Core.Bool.{Bool, true, false, _||_, cond, or-true}
 use mathlib.Core.List.{List, _++_, append-assoc}
 use Prim.Native.Nat.{ℕ, _≤_, _<_}
 use native.Mathlib.Omega.{arith}
@@ -83,6 +83,22 @@ module _ (t : Table) (name : List ℕ) (names : List (List ℕ)) where
   split : (room : ℕ) → first (writerChecks t name names room) ≡ first (checksBefore t name names ++ lengthCheck t name names room)
   unfolding writerChecks checksBefore nameChecks lengthCheck
   split room = ap first (sym (append-assoc (tableChecks 1 t) (nameChecks (t .header) name names) (lengthCheck t name names room)))
+
+  -- What is taken in some room is taken in the most that a text may have.
+  pub room-grows : (room : ℕ) → first (writerChecks t name names room) ≡ Accepted → first (writerChecks t name names 65536) ≡ Accepted
+  unfolding lengthCheck first
+  room-grows room e =
+      let parts = first-part (checksBefore t name names) (lengthCheck t name names room) (sym (split room) ∙ e) in
+      split 65536 ∙ first-accepted (checksBefore t name names) (lengthCheck t name names 65536) (parts .0) ∙ grows (parts .1)
+    where
+      go : (x : Checked) → (x ≡ Accepted → ⊥) → (u v : Bool) → cond (u || v) x Accepted ≡ Accepted → cond (v || v) x Accepted ≡ Accepted
+      go x never true v h = absurd (never h)
+      go x never false true h = absurd (never h)
+      go x never false false h = refl
+
+      grows : first (lengthCheck t name names room) ≡ Accepted → first (lengthCheck t name names 65536) ≡ Accepted
+      grows = go (Refused (refusal 23 0 Nowhere)) (λ q. absurd (let z : _≡_ {A = ℕ} 0 1 = cc in omega arith))
+          (ltb room (textLength t name names)) (ltb 65536 (textLength t name names))
 
   module _ (k : Checked) (checked : k ≡ first (checksBefore t name names)) (bytes : List ℕ) where
     module _ (r : Refusal) (no : k ≡ Refused r) where

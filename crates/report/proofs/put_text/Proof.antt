@@ -1,3 +1,6 @@
+use mathlib.Core.Bool.{true}
+use Rattle.report.specs.Parts.{sixOf}
+use denote.Ref.{now}
 use Rattle.report.proofs.Texts.{text-refused, text-within, text-follows}
 use borrow.Author.Needs.{needs}
 use Rattle.report.proofs.put_text.Statement.{statement}
@@ -18,20 +21,17 @@ refuse-requires c κs = search needs
 enum-known-n : tie.Need-enum-known-n
 enum-known-n c = search needs
 
-six-lines-requires : tie.Need-six-lines-requires
-six-lines-requires c κs = search needs
+sub-tell-text : tie.Need-sub-tell-text
+sub-tell-text c = search needs
 
-sub-put : tie.Need-sub-put
-sub-put c = search needs
+part-tell-text-start : tie.Need-part-tell-text-start
+part-tell-text-start c = search needs
 
-part-put-start : tie.Need-part-put-start
-part-put-start c = search needs
+part-tell-text-end : tie.Need-part-tell-text-end
+part-tell-text-end c = text-within _ _ _ _ _ (c .before .before .before .before .before .before .write .ensures .0) (c .before .before .before .before .before .before .write .ensures .1) _ (c .before .before .n .given .1) (search needs)
 
-part-put-end : tie.Need-part-put-end
-part-put-end c = text-within _ _ _ _ _ (c .before .before .before .before .before .before .before .before .before .before .before .before .before .before .before .before .before .before .pre) (c .before .before .before .before .before .before .before .before .before .before .before .write .ensures .0) (c .before .before .before .before .before .before .before .before .before .before .before .write .ensures .1) _ (c .before .before .before .before .before .before .before .n .given .1) (search needs)
-
-put-requires : tie.Need-put-requires
-put-requires c κs = search needs
+tell-text-requires : tie.Need-tell-text-requires
+tell-text-requires c κs = search needs
 
 same-length : tie.Need-same-length
 same-length c = search needs
@@ -50,8 +50,11 @@ same-length-4 c = search needs
 
 returns-2 : tie.Need-returns-2
 returns-2 c =
-    text-follows _ _ _ _ _ (c .before .before .before .before .before .before .before .before .before .before .before .before .before .before .before .before .before .before .before .before .before .before .pre) (c .before .before .before .before .before .before .before .before .before .before .before .before .before .before .before .write .ensures .0) (c .before .before .before .before .before .before .before .before .before .before .before .before .before .before .before .write .ensures .1) _ (c .before .before .before .before .before .before .before .before .before .before .before .n .given .1) _ _ _ _ _ _
-    (c .before .before .before .before .before .before .before .before .six-lines .ensures) (c .before .before .put .ensures)
+    let a = c .before .before .before .before .before .before .before .before .before .before .before .before .before .before .before .before .before .before .args in
+    let w = c .before .before .before .before .before .before .before .before .before .before .before .write .ensures in
+    let t = c .before .before .tell-text .ensures in
+    text-follows _ _ _ _ _ (w .0) (w .1) _ (c .before .before .before .before .before .before .before .n .given .1)
+    (sixOf true (a .header) (a .rounds) (now (a .cells)) (now (a .flags))) _ _ _ _ (t .0) (t .1)
 
 pub put-text-spec : {M : Type 1} → statement M
 put-text-spec =
@@ -62,11 +65,10 @@ put-text-spec =
     enum-known-r
     refuse-requires
     enum-known-n
-    six-lines-requires
-    sub-put
-    part-put-start
-    part-put-end
-    put-requires
+    sub-tell-text
+    part-tell-text-start
+    part-tell-text-end
+    tell-text-requires
     same-length
     same-length-2
     returns
