@@ -118,11 +118,6 @@ module _ (c : Spelling) where
       no : {r : Bool} → true ≡ r → not r ≡ true → ⊥
       no e d = let z : _≡_ {A = ℕ} 0 1 = cc in omega arith
 
-  -- Lists that differ at a byte in more than the bit in which cases differ do not match.
-  pub match-differ-bit : (s t : List ℕ) (i : ℕ) → i < length s → i < length t → (b : ℕ) → b ≡ caseBit c → (bitOr (getD s i 0) b ≡ bitOr (getD t i 0) b → ⊥)
-      → false ≡ matches c s t
-  match-differ-bit s t i h k b e d = match-differ-at s t i h k (λ q. d (rw e (same-but-bit c (getD s i 0) (getD t i 0) q)))
-
   -- Two lists match from the byte i on: at their end, one byte earlier, from their start.
   module _ (s t : List ℕ) (i : ℕ) where
     pub match-end : length s ≤ i → length t ≤ i → matches c (drop i s) (drop i t) ≡ true

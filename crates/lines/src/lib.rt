@@ -16,7 +16,6 @@ mod tokens;
 
 pub use scan::after;
 pub use scan::before;
-pub use scan::case_bit;
 pub use scan::matches;
 pub use tokens::is_name;
 

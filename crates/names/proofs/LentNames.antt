@@ -65,9 +65,6 @@ module _ (names : List (List ℕ)) (left : ℕ) (bound : left < 2 ^ 32) (some : 
   pub named-lowest : trailingZeros 32 left < length names
   named-lowest = let k = low 32 left (omega arith) bound in n .entry _ (k .lowest .below) (k .lowest .passes)
 
-  pub short-lowest : length (nameOf names (trailingZeros 32 left)) ≤ 16
-  short-lowest = let k = low 32 left (omega arith) bound in n .short _ (k .lowest .below) (k .lowest .passes)
-
   pub named-rest : Named (left - 2 ^ trailingZeros 32 left) names
   named-rest =
       let k = low 32 left (omega arith) bound in

@@ -1,26 +1,25 @@
 -- Names by their places in two texts: the key of a name, finding one, adding one.
 use mathlib.Core.Path.{_≡_, refl, sym, ap, subst, _∙_}
-use mathlib.Core.Bool.{Bool, true, false, _&&_, _||_, cond, or-true}
+use mathlib.Core.Bool.{Bool, true, false, _&&_, cond, or-true}
 use mathlib.Core.List.{List, [], _∷_, _++_, map, map-append}
 use Prim.Native.Nat.{ℕ, zero, suc, _+_, _-_, _*_, _/_, _%_, _<_, _≤_, min}
 use native.Mathlib.Numerals.{add-one}
 use native.Mathlib.Omega.{arith}
 use native.Mathlib.Decide.{decLt}
 use lib.Dec.{T, eqb, ltb, leb}
-use lib.ListN.{length, take, drop, getD, set, replicate, length-map, length-append, length-replicate, length-set, drop-of-length-le, List·getD-map, List·getD-eq-default}
+use lib.ListN.{length, take, drop, getD, set, replicate, length-map, length-append, length-replicate, drop-of-length-le, List·getD-map, List·getD-eq-default}
 use lib.Seq.{drop-cons, getD-take, length-take-le, take-suc-set, take-all}
 use borrow.Author.Tests.{eq-eqb, ne-eqb, eqb-true, lt-ltb, le-ltb, le-leb, lt-leb}
 use Rattle.theory.proofs.Tests.{is-true, and-left, and-right}
-use Rattle.theory.proofs.Filled.{any-default}
 use Rattle.text.specs.declared.Spelling.{Spelling}
 use Rattle.text.specs.declared.Spelling.the-variants.{Exact, Folded}
-use Rattle.text.specs.Fields.{lower, spelled, matches}
+use Rattle.text.specs.Fields.{spelled, matches}
 use Rattle.text.specs.Reading.{Signal, textOf, firstMatch, known}
 use Rattle.text.specs.Lookup.{nobody}
 use Rattle.lines.specs.Places.{placeIn}
 use Rattle.names.specs.declared.Name.{Name}
 use Rattle.names.specs.declared.Names.{Names}
-use Rattle.names.specs.NamePlaces.{textIn, lengthIn, nameAt}
+use Rattle.names.specs.NamePlaces.{textIn, nameAt}
 use Rattle.names.specs.Numbering.{fromEnd, key, unused, entryAt, entriesOf, signalAt, signalsOf, entryOf, tableOf, Fit, position, isOf, withEntry}
 
 -- ---- the key of a name
@@ -206,9 +205,6 @@ get-front : {A : Type 0} (l : List A) (k i : ℕ) (u : A) → getD (l ++ replica
 get-front [] k i u = get-same k i u
 get-front (x ∷ l) k zero u = refl
 get-front (x ∷ l) k (suc i) u = get-front l k i u
-
-pub entry-there : (s : Names) (number : ℕ) → length (s .entries) ≡ 32 → number < 32 → (d n : Name) → n ≡ getD (s .entries) number d → n ≡ entryAt s number
-entry-there s number size h d n e = e ∙ any-default (s .entries) number d unused (omega arith)
 
 pub entry-beyond : (s : Names) (number : ℕ) → length (s .entries) ≡ 32 → 32 ≤ number → (n : Name) → n ≡ unused → n ≡ entryAt s number
 entry-beyond s number size h n e = e ∙ sym (List·getD-eq-default (s .entries) unused (omega arith))

@@ -11,7 +11,7 @@ use borrow.Author.Tests.{eq-eqb, ne-eqb, lt-ltb, le-ltb}
 use Rattle.theory.proofs.Filled.{any-default}
 use Rattle.text.specs.declared.Clash.{Clash}
 use Rattle.text.specs.declared.Spelling.the-variants.{Exact, Folded}
-use Rattle.text.specs.Fields.{onto, split, matches}
+use Rattle.text.specs.Fields.{onto, split}
 use Rattle.text.specs.Reading.{Signal, firstMatch, readBoth}
 use Rattle.text.specs.Writing.{those}
 use Rattle.text.specs.Lookup.{nobody}

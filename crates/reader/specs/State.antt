@@ -14,7 +14,7 @@ use Rattle.text.specs.declared.Role.{Role}
 use Rattle.text.specs.declared.Spelling.{Spelling}
 use Rattle.text.specs.Fields.{split}
 use Rattle.text.specs.Lines.{parse}
-use Rattle.text.specs.Reading.{Signal, Reading, Result, next, stop, Outcome, finished, ended, Joint, both, neither, indexOf, started, declaring, stepping, entered, fresh, readLines, readFrom, readAlone, readBoth}
+use Rattle.text.specs.Reading.{Reading, Result, next, stop, Outcome, finished, ended, Joint, both, neither, indexOf, started, declaring, stepping, entered, fresh, readLines, readFrom, readAlone, readBoth}
 use Rattle.lines.specs.declared.Record.{Record}
 use Rattle.lines.specs.declared.Parsed.the-variants.{Fields}
 use Rattle.lines.specs.declared.Line.{Line}

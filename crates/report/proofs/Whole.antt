@@ -66,9 +66,6 @@ lent-fits pairs cells flags n n-lent =
 -- ---- what is left in a buffer
 
 module _ (b : Bool) (l x y : List ℕ) where
-  pub on-true : b ≡ true → l ≡ x → l ≡ cond b x y
-  on-true e f = rw e f
-
   pub on-false : b ≡ false → l ≡ y → l ≡ cond b x y
   on-false e f = rw e f
 
