@@ -117,7 +117,7 @@ struct Word {
     length: usize,
 }
 
-// Gives the word of a role. A further role is one more case here, and nowhere else where lines are put.
+// Gives the word of a role.
 fn role_word(role: Role) -> Word
     ensures { λ r. ⌜ r .length ≡ length (roleWord role) ⌝ }
     ensures { λ r. ⌜ take (r .length) (r .bytes) ≡ roleWord role ⌝ }

@@ -1,4 +1,5 @@
-// Takes a line of table text apart (document 01, "Table text"): gives the fields of its record, or the number of its refusal.
+// Takes lines of table text apart (document 01, "Table text"): gives the fields of a record, or the number of its refusal. Compares and cuts parts, and
+// knows the name rule.
 ghost use mathlib.Core.Path.{_≡_};
 ghost use Prim.Native.Nat.{ℕ, _+_, _<_};
 ghost use lib.ListN.{length};

@@ -5,7 +5,7 @@ use lib.ListN.{take, drop}
 use Rattle.text.specs.Reading.{textOf}
 use Rattle.names.specs.declared.Name.{Name}
 
--- The number of its text, and its length.
+-- The number of the text that a name stands in, and the name's length.
 abbrev pub textIn : Name → ℕ
 textIn n = n .place % 4
 

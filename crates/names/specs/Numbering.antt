@@ -18,7 +18,8 @@ use Rattle.names.specs.NamePlaces.{textIn, nameAt}
 unfoldable pub fromEnd : ℕ → List ℕ → ℕ
 fromEnd k s = cond (ltb (length s) k) 0 (getD s (length s - k) 0)
 
--- By the last bits of the last two bytes, five and three, which the two cases of a letter share: names of different keys match in no spelling.
+-- A number made of the last bits of the last two bytes, five and three, which the two cases of a letter share: names of different keys match in no
+-- spelling.
 unfoldable pub key : List ℕ → ℕ
 key s = fromEnd 1 s % 32 + fromEnd 2 s % 8 * 32
 
@@ -65,7 +66,7 @@ position f (x ∷ l) = cond (f x) 0 (suc (position f l))
 abbrev pub isOf : List ℕ → List ℕ → Spelling → List ℕ → Name → Bool
 isOf m p c wanted n = eqb (n .key) (key wanted) && matches c (nameAt m p n) wanted
 
--- With the entry, if the number is free and there is room for it.
+-- The table with the entry behind the others, unless the number is taken or the table is full.
 unfoldable pub withEntry : Names → Name → ℕ → Names
 withEntry s n number =
     cond (ltb number (s .count) || leb 32 (s .count)) s (record { entries = set (s .entries) (s .count) n; count = s .count + 1 })

@@ -135,7 +135,7 @@ pub fn part<'a>(m: &'a [u8], p: &'a [u8], names: Names, number: usize) -> &'a [u
     crate::bytes_of(m, p, entry_at(names, number))
 }
 
-// Gives the number to the name of an entry if it is the next free one; changes nothing if a name has it already, or if the table is full.
+// Adds an entry under the next free number; changes nothing if `number` belongs to a name already, or if the table is full.
 pub fn add(names: Names, entry: Name, number: usize) -> Names
     ensures { λ r. ⌜ r ≡ withEntry names entry number ⌝ }
 {

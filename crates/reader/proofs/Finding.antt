@@ -21,14 +21,14 @@ use Rattle.text.specs.Lookup.{nobody}
 use Rattle.text.proofs.Accepted.{accepted-alone, accepted-both}
 use Rattle.names.specs.declared.Name.{Name}
 use Rattle.names.specs.declared.Names.{Names}
-use Rattle.reader.specs.declared.state.Told.{Told}
-use Rattle.reader.specs.declared.state.Both.{Both}
+use Rattle.reader.specs.declared.state.TextRead.{TextRead}
+use Rattle.reader.specs.declared.state.TextsRead.{TextsRead}
 use Rattle.names.specs.NamePlaces.{textIn, nameAt}
 use Rattle.names.specs.Numbering.{signalAt, signalsOf}
 use Rattle.names.proofs.NumberedNames.{signals-length, signal-at}
 use Rattle.reader.specs.State.{isDeclared, ReadsOne, ReadsBoth}
 use Rattle.reader.proofs.Meaning.{alone-ended, alone-finished, both-ended, both-finished}
-use Rattle.reader.specs.declared.Found.{Found}
+use Rattle.reader.specs.declared.places.Found.{Found}
 use Rattle.reader.specs.Places.{placed, foundIn, foundAloneIn, Held}
 
 -- ---- the place of a name
@@ -53,7 +53,7 @@ pub declared-of : (a b : Automaton) (s d e : ℕ) (r : Bool) → d ≡ declaredS
 declared-of a b s d e r f g h =
     h ∙ member-or d e s ∙ rw (f, g, declared-set (table a []) s, declared-set (table b []) s)
 
-module _ (m p : List ℕ) (c : Spelling) (room room′ : ℕ) (t : Both) (cells cells′ : List ℕ) (read : ReadsBoth m p c room room′ t cells cells′) (a : ℕ) (r : Found) where
+module _ (m p : List ℕ) (c : Spelling) (room room′ : ℕ) (t : TextsRead) (cells cells′ : List ℕ) (read : ReadsBoth m p c room room′ t cells cells′) (a : ℕ) (r : Found) where
   pub found-refused : t .refused ≡ true → r ≡ placed nobody (t .refusal .number) → r ≡ foundIn (readBoth c room m room′ p) a
   found-refused e f = f ∙ ap (λ j. foundIn j a) (both-ended m p c room room′ t cells cells′ read e)
 
@@ -81,7 +81,7 @@ module _ (m p : List ℕ) (c : Spelling) (room room′ : ℕ) (t : Both) (cells 
 
 -- ---- a text alone
 
-module _ (m : List ℕ) (c : Spelling) (room : ℕ) (t : Told) (cells : List ℕ) (read : ReadsOne m c room t cells) (a : ℕ) (r : Found) where
+module _ (m : List ℕ) (c : Spelling) (room : ℕ) (t : TextRead) (cells : List ℕ) (read : ReadsOne m c room t cells) (a : ℕ) (r : Found) where
   pub alone-found-refused : t .refused ≡ true → r ≡ placed nobody (t .refusal .number) → r ≡ foundAloneIn (readAlone c room m) a
   alone-found-refused e f = f ∙ ap (λ o. foundAloneIn o a) (alone-ended m c room t cells read e)
 

@@ -9,18 +9,18 @@ use Rattle.text.specs.Reading.{finished, ended, both, neither, afterFirst, afte
 use Rattle.names.specs.declared.Names.{Names}
 use Rattle.names.specs.Numbering.{tableOf}
 use Rattle.names.proofs.NumberedNames.{none-signals}
-use Rattle.reader.specs.declared.state.Told.{Told}
-use Rattle.reader.specs.declared.state.Both.{Both}
+use Rattle.reader.specs.declared.state.TextRead.{TextRead}
+use Rattle.reader.specs.declared.state.TextsRead.{TextsRead}
 use Rattle.reader.specs.State.{reading, outcome, joint, Reads, ReadsOne, joined, ReadsBoth}
 
-module _ (m p : List ℕ) (c : Spelling) (none : Names) (n : none ≡ tableOf []) (room : ℕ) (a : Told) (cells : List ℕ) (read : Reads m p 1 c none room a cells) where
+module _ (m p : List ℕ) (c : Spelling) (none : Names) (n : none ≡ tableOf []) (room : ℕ) (a : TextRead) (cells : List ℕ) (read : Reads m p 1 c none room a cells) where
   -- The first text.
   alone-outcome : outcome m p a cells ≡ readAlone c room m
   unfolding readAlone
   alone-outcome = read .means ∙ rw (n, none-signals m p)
 
   -- A refused text leaves both tables without steps.
-  pub both-first : a .refused ≡ true → (r : Both) → r ≡ joined a a → (was cells′ : List ℕ) → cells′ ≡ replicate (length was) 65535
+  pub both-first : a .refused ≡ true → (r : TextsRead) → r ≡ joined a a → (was cells′ : List ℕ) → cells′ ≡ replicate (length was) 65535
       → ReadsBoth m p c room (length was) r cells cells′
   unfolding readBoth
   both-first e r f was cells′ g = rw f (record {
@@ -29,7 +29,7 @@ module _ (m p : List ℕ) (c : Spelling) (none : Names) (n : none ≡ tableOf []
     left = λ _. (read .left e, g);
   })
 
-  pub both-second : a .refused ≡ false → (room′ : ℕ) (b : Told) (cells′ : List ℕ) → Reads m p 2 c (a .state .signals) room′ b cells′ → (r : Both) → r ≡ joined a b
+  pub both-second : a .refused ≡ false → (room′ : ℕ) (b : TextRead) (cells′ : List ℕ) → Reads m p 2 c (a .state .signals) room′ b cells′ → (r : TextsRead) → r ≡ joined a b
       → length cells ≡ room → (now : List ℕ) → now ≡ cond (b .refused) (replicate (length cells) 65535) cells → ReadsBoth m p c room room′ r now cells′
   unfolding readBoth
   both-second e room′ b cells′ d r f size now g = rw f (record {
@@ -47,5 +47,5 @@ module _ (m p : List ℕ) (c : Spelling) (none : Names) (n : none ≡ tableOf []
       second true = refl
       second false = refl
 
-pub reads-one : (m : List ℕ) (c : Spelling) (none : Names) → none ≡ tableOf [] → (room : ℕ) (a : Told) (cells : List ℕ) → Reads m m 1 c none room a cells → ReadsOne m c room a cells
+pub reads-one : (m : List ℕ) (c : Spelling) (none : Names) → none ≡ tableOf [] → (room : ℕ) (a : TextRead) (cells : List ℕ) → Reads m m 1 c none room a cells → ReadsOne m c room a cells
 reads-one m c none n room a cells read = record { fit = read .fit; means = alone-outcome m m c none n room a cells read; left = read .left }

@@ -9,21 +9,21 @@ use Rattle.text.specs.declared.Spelling.{Spelling}
 use Rattle.text.specs.declared.Spelling.the-variants.{Exact, Folded}
 use Rattle.text.specs.Reading.{Outcome, finished, ended, Joint, both, neither, readAlone, readBoth}
 use Rattle.text.proofs.Archive.{taken-alone, taken-both}
-use Rattle.reader.specs.declared.state.Told.{Told}
-use Rattle.reader.specs.declared.state.Both.{Both}
+use Rattle.reader.specs.declared.state.TextRead.{TextRead}
+use Rattle.reader.specs.declared.state.TextsRead.{TextsRead}
 use Rattle.reader.specs.declared.Alone.the-variants as alone
 use Rattle.reader.specs.declared.Together.the-variants as together
 use Rattle.reader.specs.State.{reading, ReadsOne, ReadsBoth}
-use Rattle.reader.specs.Replies.{aloneReply, togetherReply}
+use Rattle.reader.specs.Contract.{aloneReply, togetherReply}
 
-module _ (m : List ℕ) (c : Spelling) (room : ℕ) (a : Told) (cells : List ℕ) (read : ReadsOne m c room a cells) where
+module _ (m : List ℕ) (c : Spelling) (room : ℕ) (a : TextRead) (cells : List ℕ) (read : ReadsOne m c room a cells) where
   pub alone-ended : a .refused ≡ true → ended (a .refusal) ≡ readAlone c room m
   alone-ended e = simp e at (read .means)
 
   pub alone-finished : a .refused ≡ false → finished (reading m m (a .state) cells) ≡ readAlone c room m
   alone-finished e = simp e at (read .means)
 
-module _ (m p : List ℕ) (c : Spelling) (room room′ : ℕ) (a : Both) (cells cells′ : List ℕ) (read : ReadsBoth m p c room room′ a cells cells′) where
+module _ (m p : List ℕ) (c : Spelling) (room room′ : ℕ) (a : TextsRead) (cells cells′ : List ℕ) (read : ReadsBoth m p c room room′ a cells cells′) where
   pub both-ended : a .refused ≡ true → neither (a .refusal) ≡ readBoth c room m room′ p
   both-ended e = simp e at (read .means)
 

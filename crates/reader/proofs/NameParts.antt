@@ -14,7 +14,7 @@ use Rattle.text.specs.Reading.{Signal, textOf, Outcome, finished, ended, Joint,
 use Rattle.text.specs.Lookup.{ample, nobody, declares, lookup, lookupNumber, lookupAlone, lookupNumberAlone}
 use Rattle.text.proofs.Parts.{Stands, lookup-part-alone, lookup-part-first, lookup-part-second}
 use Rattle.lines.specs.Places.{forward, placeIn}
-use Rattle.reader.specs.declared.Found.{Found}
+use Rattle.reader.specs.declared.places.Found.{Found}
 use Rattle.reader.specs.Places.{found, foundAlone}
 
 -- ---- a name stands in its text where the signal says

@@ -12,17 +12,17 @@ use Rattle.names.specs.declared.Names.{Names}
 use Rattle.names.specs.Numbering.{signalsOf, tableOf}
 use Rattle.names.proofs.NumberedNames.{none-signals}
 use Rattle.reader.specs.declared.NamedTables.{NamedTables}
-use Rattle.reader.specs.declared.state.Told.{Told}
-use Rattle.reader.specs.declared.state.Both.{Both}
+use Rattle.reader.specs.declared.state.TextRead.{TextRead}
+use Rattle.reader.specs.declared.state.TextsRead.{TextsRead}
 use Rattle.reader.specs.State.{ReadsOne, ReadsBoth}
 use Rattle.reader.proofs.Meaning.{alone-ended, alone-finished, both-ended, both-finished}
 use Rattle.reader.specs.declared.Alone.the-variants as alone
 use Rattle.reader.specs.declared.Together.the-variants as together
-use Rattle.reader.specs.Replies.{aloneReply, togetherReply, signalsRead, namedReply}
+use Rattle.reader.specs.Contract.{aloneReply, togetherReply, signalsRead, namedReply}
 
 -- ---- a text alone
 
-module _ (m : List ℕ) (c : Spelling) (room : ℕ) (a : Told) (cells : List ℕ) (read : ReadsOne m c room a cells) where
+module _ (m : List ℕ) (c : Spelling) (room : ℕ) (a : TextRead) (cells : List ℕ) (read : ReadsOne m c room a cells) where
   pub alone-refused : a .refused ≡ true → alone.Refused (a .refusal) ≡ aloneReply (readAlone c room m)
   alone-refused e = ap aloneReply (alone-ended m c room a cells read e)
 
@@ -42,7 +42,7 @@ pub refused-named : (r : TextRefusal) (h : Automaton) (s : Names) → h ≡ head
     → _≡_ {A = NamedTables} (record { refused = true; refusal = r; component = h; specification = h; names = s }) (namedReply (neither r))
 refused-named r h s e f = rw (e, f)
 
-module _ (m p : List ℕ) (c : Spelling) (room room′ : ℕ) (a : Both) (cells cells′ : List ℕ) (read : ReadsBoth m p c room room′ a cells cells′) where
+module _ (m p : List ℕ) (c : Spelling) (room room′ : ℕ) (a : TextsRead) (cells cells′ : List ℕ) (read : ReadsBoth m p c room room′ a cells cells′) where
   pub together-refused : a .refused ≡ true → together.Refused (a .refusal) ≡ togetherReply (readBoth c room m room′ p)
   together-refused e = ap togetherReply (both-ended m p c room room′ a cells cells′ read e)
 

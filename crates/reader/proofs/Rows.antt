@@ -24,7 +24,7 @@ use Rattle.names.specs.NamePlaces.{nameAt}
 use Rattle.reader.specs.declared.ClashList.{ClashList}
 use Rattle.reader.specs.declared.Listing.{Listing}
 use Rattle.names.specs.declared.Names.{Names}
-use Rattle.reader.specs.declared.state.Both.{Both}
+use Rattle.reader.specs.declared.state.TextsRead.{TextsRead}
 use Rattle.names.specs.Numbering.{entriesOf, signalAt, signalsOf, Fit, position, isOf}
 use Rattle.names.proofs.NumberedNames.{set-behind, signals-length, signal-at, find-signal}
 use Rattle.reader.specs.State.{ReadsBoth}
@@ -157,7 +157,7 @@ module _ (m p : List ℕ) (s : Names) (fit : Fit m p s) where
 
 -- ---- by what was read
 
-module _ (m p : List ℕ) (room room′ : ℕ) (t : Both) (cells cells′ : List ℕ) (read : ReadsBoth m p Exact room room′ t cells cells′) (r : Listing) where
+module _ (m p : List ℕ) (room room′ : ℕ) (t : TextsRead) (cells cells′ : List ℕ) (read : ReadsBoth m p Exact room room′ t cells cells′) (r : Listing) where
   pub list-refused : t .refused ≡ true → r ≡ record { refused = true; refusal = t .refusal; clashes = inRows [] } → r ≡ listing m p (readBoth Exact room m room′ p)
   list-refused e f = f ∙ ap (listing m p) (both-ended m p Exact room room′ t cells cells′ read e)
 

@@ -26,11 +26,11 @@ use Rattle.names.specs.declared.Names.{Names}
 use Rattle.names.specs.Numbering.{signalsOf, Fit}
 use Rattle.reader.specs.declared.state.State.{State}
 use Rattle.reader.specs.declared.entries.Advanced.{Advanced}
-use Rattle.reader.specs.declared.state.Told.{Told}
+use Rattle.reader.specs.declared.state.TextRead.{TextRead}
 use Rattle.reader.specs.State.{reading, result, outcome, freshState, Sound, Enters, Blank, Says, numberIn, ReadsLines, Reads}
 use Rattle.reader.proofs.Lines.{lines-done, lines-unended, lines-onward}
 
-abbrev refusing : ℕ → ℕ → ℕ → State → Told
+abbrev refusing : ℕ → ℕ → ℕ → State → TextRead
 refusing n text line st = record { refused = true; refusal = record { number = n; text = text; line = line }; state = st }
 
 -- The state before the first line, with the header that is made for it.
@@ -87,7 +87,7 @@ module _ (m p : List ℕ) (text : ℕ) (c : Spelling) (s : Names) (st₀ : State
     told-done h = record { fit = fit; means = so _ (sym (lines-done c text k (reading m p st cells) bytes at h)) }
 
     module _ (h : at < length bytes) (u : List ℕ) (rest : u ≡ drop at bytes) (l : Line) (read : l ≡ firstLine (st .place) u) where
-      pub told-unread : (i : ℕ) → l ≡ NoLine i → (n : ℕ) → n ≡ numberIn l → (r : Told) → r ≡ refusing n text k st → ReadsLines m p text c s room r cells
+      pub told-unread : (i : ℕ) → l ≡ NoLine i → (n : ℕ) → n ≡ numberIn l → (r : TextRead) → r ≡ refusing n text k st → ReadsLines m p text c s room r cells
       unfolding entered
       told-unread i e n f r g =
           let d : LineRefused (st .place) (drop at bytes) i = rw rest at (line-refused (st .place) u l read i e) in
@@ -110,7 +110,7 @@ module _ (m p : List ℕ) (text : ℕ) (c : Spelling) (s : Names) (st₀ : State
           step : result m p q cells′ ≡ entered c text at (reading m p st cells) (parse (st .place) (take e (drop at bytes)))
           step = d .means ∙ rw (line-is bytes at u rest (st .place) l read fields e taken cut taken-part)
 
-          pub told-refused : q .refused ≡ true → (r : Told) → r ≡ refusing (q .number) text k st → ReadsLines m p text c s room r cells′
+          pub told-refused : q .refused ≡ true → (r : TextRead) → r ≡ refusing (q .number) text k st → ReadsLines m p text c s room r cells′
           told-refused o r f =
               let x : stop (q .number) ≡ entered c text at (reading m p st cells) (parse (st .place) (take e (drop at bytes))) = simp o at step in
               rw f (record {
@@ -134,12 +134,12 @@ cleared room cells e = record { blank = e ∙ ap (λ k. replicate k 65535) (sym 
 
 module _ (m p : List ℕ) (text : ℕ) (c : Spelling) (s : Names) (fit : Fit m p s) (bytes : List ℕ) (same : bytes ≡ textOf m p text) (room : ℕ)
     (cells : List ℕ) (blank : cells ≡ replicate room 65535) where
-  pub reads-long : 65536 < length bytes → (st : State) → st ≡ freshState s → (r : Told) → r ≡ refusing 13 text 0 st → Reads m p text c s room r cells
+  pub reads-long : 65536 < length bytes → (st : State) → st ≡ freshState s → (r : TextRead) → r ≡ refusing 13 text 0 st → Reads m p text c s room r cells
   unfolding readFrom
   reads-long h st e r f = rw (f, e) (record { fit = fit; means = rw (← same, lt-ltb 65536 (length bytes) h); left = λ _. blank })
 
   module _ (short : length bytes ≤ 65536) where
-    pub reads-none : length bytes ≡ 0 → (st : State) → st ≡ freshState s → (r : Told) → r ≡ refusing 22 text 0 st → Reads m p text c s room r cells
+    pub reads-none : length bytes ≡ 0 → (st : State) → st ≡ freshState s → (r : TextRead) → r ≡ refusing 22 text 0 st → Reads m p text c s room r cells
     unfolding readFrom
     reads-none h st e r f = rw (f, e) (record { fit = fit; means = rw (← same, le-ltb 65536 (length bytes) short, nil bytes h); left = λ _. blank })
       where
@@ -148,7 +148,7 @@ module _ (m p : List ℕ) (text : ℕ) (c : Spelling) (s : Names) (fit : Fit m p
         nil (x ∷ b) h = absurd (omega arith)
 
     -- The lines were read into the cells, which a refusal clears again.
-    pub reads-lines : (length bytes ≡ 0 → ⊥) → (r : Told) (read now : List ℕ) → ReadsLines m p text c s (length cells) r read → length read ≡ length cells
+    pub reads-lines : (length bytes ≡ 0 → ⊥) → (r : TextRead) (read now : List ℕ) → ReadsLines m p text c s (length cells) r read → length read ≡ length cells
         → now ≡ cond (r .refused) (replicate (length read) 65535) read → Reads m p text c s room r now
     unfolding readFrom
     reads-lines h r read now d size g =

@@ -1,4 +1,4 @@
 pub mod State
-pub mod Replies
+pub mod Contract
 pub mod Places
 pub mod Clashes

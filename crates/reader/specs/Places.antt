@@ -7,7 +7,7 @@ use Rattle.text.specs.Reading.{Signal, Outcome, Joint}
 use Rattle.text.specs.Lookup.{signalOf, numberOf, lookup, lookupNumber, signalAlone, numberAlone, lookupAlone, lookupNumberAlone}
 use Rattle.names.specs.declared.Names.{Names}
 use Rattle.names.specs.Numbering.{Fit}
-use Rattle.reader.specs.declared.Found.{Found}
+use Rattle.reader.specs.declared.places.Found.{Found}
 
 -- The place of a name, with the number of the refusal, or 0.
 abbrev pub placed : Signal → ℕ → Found

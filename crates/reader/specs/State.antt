@@ -14,21 +14,20 @@ use Rattle.text.specs.declared.Role.{Role}
 use Rattle.text.specs.declared.Spelling.{Spelling}
 use Rattle.text.specs.Fields.{split}
 use Rattle.text.specs.Lines.{parse}
-use Rattle.text.specs.Reading.{Reading, Result, next, stop, Outcome, finished, ended, Joint, both, neither, indexOf, started, declaring, stepping, entered, fresh, readLines, readFrom, readAlone, readBoth}
+use Rattle.text.specs.Reading.{textOf, Reading, Result, next, stop, Outcome, finished, ended, Joint, both, neither, indexOf, started, declaring, stepping, entered, fresh, readLines, readFrom, readAlone, readBoth}
 use Rattle.lines.specs.declared.Record.{Record}
 use Rattle.lines.specs.declared.Parsed.the-variants.{Fields}
 use Rattle.lines.specs.declared.Line.{Line}
 use Rattle.lines.specs.declared.Line.the-variants.{Taken, Refused}
 use Rattle.lines.specs.Located.{located}
-use Rattle.text.specs.Reading.{textOf}
 use Rattle.names.specs.declared.Name.{Name}
 use Rattle.names.specs.declared.Names.{Names}
 use Rattle.names.specs.NamePlaces.{nameAt}
 use Rattle.names.specs.Numbering.{signalAt, signalsOf, entryOf, Fit}
 use Rattle.reader.specs.declared.state.State.{State}
 use Rattle.reader.specs.declared.entries.Advanced.{Advanced}
-use Rattle.reader.specs.declared.state.Told.{Told}
-use Rattle.reader.specs.declared.state.Both.{Both}
+use Rattle.reader.specs.declared.state.TextRead.{TextRead}
+use Rattle.reader.specs.declared.state.TextsRead.{TextsRead}
 
 -- ---- signals
 
@@ -90,7 +89,7 @@ pub record InText (m p : List ℕ) (text at : ℕ) (line : List ℕ) : Type 0 wh
   pub within : at + length line < length (textOf m p text)
   pub there : line ≡ take (length line) (drop at (textOf m p text))
 
--- Such a line, and what it says, as a record.
+-- The record r is what a line in a text says, at this place of the reading.
 pub record Says (m p : List ℕ) (text at : ℕ) (line : List ℕ) (place : Place) (r : Record) : Type 0 where
   pub inside : InText m p text at line
   pub told : Fields r ≡ located line (parse place line)
@@ -104,7 +103,7 @@ pub record Enters (m p : List ℕ) (text : ℕ) (c : Spelling) (at : ℕ) (line 
 abbrev pub freshState : Names → State
 freshState s = record { place = Head; header = header 0 0 0 0; signals = s }
 
-abbrev pub outcome : List ℕ → List ℕ → Told → List ℕ → Outcome
+abbrev pub outcome : List ℕ → List ℕ → TextRead → List ℕ → Outcome
 outcome m p r cells = cond (r .refused) (ended (r .refusal)) (finished (reading m p (r .state) cells))
 
 -- The number of a refused line; 0 of any other.
@@ -116,29 +115,29 @@ numberIn (Taken r n) = 0
 pub record Blank (cells : List ℕ) : Type 0 where
   pub blank : cells ≡ replicate (length cells) 65535
 
-pub record ReadsLines (m p : List ℕ) (text : ℕ) (c : Spelling) (s : Names) (room : ℕ) (r : Told) (cells : List ℕ) : Type 0 where
+pub record ReadsLines (m p : List ℕ) (text : ℕ) (c : Spelling) (s : Names) (room : ℕ) (r : TextRead) (cells : List ℕ) : Type 0 where
   pub fit : Fit m p (r .state .signals)
   pub means : outcome m p r cells ≡ readLines c text 1 0 (fresh (signalsOf m p s) room) (split 10 (textOf m p text))
 
-pub record Reads (m p : List ℕ) (text : ℕ) (c : Spelling) (s : Names) (room : ℕ) (r : Told) (cells : List ℕ) : Type 0 where
+pub record Reads (m p : List ℕ) (text : ℕ) (c : Spelling) (s : Names) (room : ℕ) (r : TextRead) (cells : List ℕ) : Type 0 where
   pub fit : Fit m p (r .state .signals)
   pub means : outcome m p r cells ≡ readFrom c (signalsOf m p s) text room (textOf m p text)
   pub left : r .refused ≡ true → cells ≡ replicate room 65535
 
 -- A text that is read alone.
-pub record ReadsOne (m : List ℕ) (c : Spelling) (room : ℕ) (r : Told) (cells : List ℕ) : Type 0 where
+pub record ReadsOne (m : List ℕ) (c : Spelling) (room : ℕ) (r : TextRead) (cells : List ℕ) : Type 0 where
   pub fit : Fit m m (r .state .signals)
   pub means : outcome m m r cells ≡ readAlone c room m
   pub left : r .refused ≡ true → cells ≡ replicate room 65535
 
--- Of two texts, the second read after the first.
-abbrev pub joined : Told → Told → Both
+-- The result of two texts, the second read after the first.
+abbrev pub joined : TextRead → TextRead → TextsRead
 joined a b = record { refused = b .refused; refusal = b .refusal; first = a .state; second = b .state }
 
-abbrev pub joint : List ℕ → List ℕ → Both → List ℕ → List ℕ → Joint
+abbrev pub joint : List ℕ → List ℕ → TextsRead → List ℕ → List ℕ → Joint
 joint m p r cells cells′ = cond (r .refused) (neither (r .refusal)) (both (reading m p (r .first) cells) (reading m p (r .second) cells′))
 
-pub record ReadsBoth (m p : List ℕ) (c : Spelling) (room room′ : ℕ) (r : Both) (cells cells′ : List ℕ) : Type 0 where
+pub record ReadsBoth (m p : List ℕ) (c : Spelling) (room room′ : ℕ) (r : TextsRead) (cells cells′ : List ℕ) : Type 0 where
   pub fit : Fit m p (r .second .signals)
   pub means : joint m p r cells cells′ ≡ readBoth c room m room′ p
   pub left : r .refused ≡ true → (cells ≡ replicate room 65535) × (cells′ ≡ replicate room′ 65535)

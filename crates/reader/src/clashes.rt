@@ -50,7 +50,7 @@ fn declared_at<'a>(m: &'a [u8], p: &'a [u8], name: Name) -> Declaration
     Declaration { text, line }
 }
 
-// No clash.
+// Returns the list of no clash.
 fn none() -> ClashList
     ensures { λ r. ⌜ r ≡ inRows [] ⌝ }
 {
@@ -110,7 +110,7 @@ fn list<'a>(m: &'a [u8], p: &'a [u8], signals: Names) -> ClashList
     clashes
 }
 
-// The listing of texts that are refused.
+// Makes the listing of texts that are refused.
 fn refuse(refusal: TextRefusal) -> Listing
     ensures { λ r. ⌜ r ≡ record { refused = true; refusal = refusal; clashes = inRows [] } ⌝ }
 {
@@ -128,12 +128,12 @@ pub fn list_clashes<'a>(m: &'a [u8], p: &'a [u8], cm: &mut [u16], cp: &mut [u16]
     ensures { λ r. ⌜ now (cm .exit) ≡ cellsFirst (length (now (cm .entry))) (readBoth Exact (length (now (cm .entry))) (now (m .entry)) (length (now (cp .entry))) (now (p .entry))) ⌝ }
     ensures { λ r. ⌜ now (cp .exit) ≡ cellsSecond (length (now (cp .entry))) (readBoth Exact (length (now (cm .entry))) (now (m .entry)) (length (now (cp .entry))) (now (p .entry))) ⌝ }
 {
-    let told = texts::read_both(m, p, Spelling::Exact, cm, cp);
-    if told.refused {
-        let refusal = told.refusal;
+    let reading = texts::read_both(m, p, Spelling::Exact, cm, cp);
+    if reading.refused {
+        let refusal = reading.refusal;
         return refuse(refusal);
     }
-    let second = told.second;
+    let second = reading.second;
     let clashes = list(m, p, second.signals);
     Listing {
         refused: false,

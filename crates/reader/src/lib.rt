@@ -5,7 +5,7 @@ ghost use lib.ListN.{length};
 ghost use Rattle.text.specs.declared.Spelling.the-variants.{Exact, Folded};
 ghost use Rattle.text.specs.Reading.{neither, readAlone, readBoth, cellsAlone, cellsFirst, cellsSecond};
 ghost use Rattle.names.specs.Numbering.{signalsOf};
-ghost use Rattle.reader.specs.Replies.{aloneReply, togetherReply, namedReply, signalsRead};
+ghost use Rattle.reader.specs.Contract.{aloneReply, togetherReply, namedReply, signalsRead};
 use names::Names;
 use text::Clash;
 use text::Spelling;
@@ -54,15 +54,6 @@ pub struct NamedTables {
     pub names: Names,
 }
 
-// Where a signal's name was first declared: the text (1 the first, 2 the second), the byte at which the name begins, and its length. If the lookup
-// is refused, `number` says why and all else is 0; if not, `number` is 0.
-pub struct Found {
-    pub number: u32,
-    pub text: u32,
-    pub from: usize,
-    pub length: usize,
-}
-
 // Names that clash with one declared before them, in reading order: the first `count` rows; the other rows are not used.
 pub struct ClashList {
     pub rows: [Clash; 32],
@@ -81,12 +72,12 @@ fn read_one(m: &[u8], spelling: Spelling, cells: &mut [u16]) -> Alone
     ensures { λ r. ⌜ r ≡ aloneReply (readAlone spelling (length (now (cells .entry))) (now (m .entry))) ⌝ }
     ensures { λ r. ⌜ now (cells .exit) ≡ cellsAlone (length (now (cells .entry))) (readAlone spelling (length (now (cells .entry))) (now (m .entry))) ⌝ }
 {
-    let told = texts::read_one(m, spelling, cells);
-    if told.refused {
-        let refusal = told.refusal;
+    let reading = texts::read_one(m, spelling, cells);
+    if reading.refused {
+        let refusal = reading.refusal;
         return Alone::Refused(refusal);
     }
-    let state = told.state;
+    let state = reading.state;
     let header = state.header;
     Alone::Table(header)
 }
@@ -120,13 +111,13 @@ fn read_both<'a>(
     ensures { λ r. ⌜ now (cm .exit) ≡ cellsFirst (length (now (cm .entry))) (readBoth spelling (length (now (cm .entry))) (now (m .entry)) (length (now (cp .entry))) (now (p .entry))) ⌝ }
     ensures { λ r. ⌜ now (cp .exit) ≡ cellsSecond (length (now (cp .entry))) (readBoth spelling (length (now (cm .entry))) (now (m .entry)) (length (now (cp .entry))) (now (p .entry))) ⌝ }
 {
-    let told = texts::read_both(m, p, spelling, cm, cp);
-    if told.refused {
-        let refusal = told.refusal;
+    let reading = texts::read_both(m, p, spelling, cm, cp);
+    if reading.refused {
+        let refusal = reading.refusal;
         return Together::Refused(refusal);
     }
-    let first = told.first;
-    let second = told.second;
+    let first = reading.first;
+    let second = reading.second;
     let component = first.header;
     let specification = second.header;
     Together::Tables {
@@ -181,13 +172,13 @@ pub fn read_named<'a>(m: &'a [u8], p: &'a [u8], cm: &mut [u16], cp: &mut [u16]) 
     ensures { λ r. ⌜ now (cm .exit) ≡ cellsFirst (length (now (cm .entry))) (readBoth Folded (length (now (cm .entry))) (now (m .entry)) (length (now (cp .entry))) (now (p .entry))) ⌝ }
     ensures { λ r. ⌜ now (cp .exit) ≡ cellsSecond (length (now (cp .entry))) (readBoth Folded (length (now (cm .entry))) (now (m .entry)) (length (now (cp .entry))) (now (p .entry))) ⌝ }
 {
-    let told = texts::read_both(m, p, Spelling::Folded, cm, cp);
-    if told.refused {
-        let refusal = told.refusal;
+    let reading = texts::read_both(m, p, Spelling::Folded, cm, cp);
+    if reading.refused {
+        let refusal = reading.refusal;
         return refuse_named(refusal);
     }
-    let first = told.first;
-    let second = told.second;
+    let first = reading.first;
+    let second = reading.second;
     let component = first.header;
     let specification = second.header;
     let names = second.signals;

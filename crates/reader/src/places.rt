@@ -7,14 +7,22 @@ ghost use Rattle.text.specs.Lookup.{nobody};
 ghost use Rattle.names.specs.Numbering.{signalsOf};
 ghost use Rattle.reader.specs.State.{isDeclared};
 ghost use Rattle.reader.specs.Places.{placed, foundIn, foundAloneIn, found, foundAlone, Held};
-use crate::Found;
 use crate::entries;
 use crate::texts;
 use names::Names;
 use text::Spelling;
 use theory::Automaton;
 
-// A refused lookup.
+// Where a signal's name was first declared: the text (1 the first, 2 the second), the byte at which the name begins, and its length. If the lookup
+// is refused, `number` says why and all else is 0; if not, `number` is 0.
+pub struct Found {
+    pub number: u32,
+    pub text: u32,
+    pub from: usize,
+    pub length: usize,
+}
+
+// Makes the reply of a refused lookup.
 fn nowhere(number: u32) -> Found
     ensures { λ r. ⌜ r ≡ placed nobody number ⌝ }
 {
@@ -26,7 +34,7 @@ fn nowhere(number: u32) -> Found
     }
 }
 
-// The place of the name of a signal that has a number.
+// Gives the place of the name of a signal that has a number.
 fn place_of<'a>(m: &'a [u8], p: &'a [u8], signals: Names, signal: usize) -> Found
     requires { ⌜ Held (now m) (now p) signals signal ⌝ }
     ensures { λ r. ⌜ r ≡ placed (getD (signalsOf (now (m .entry)) (now (p .entry)) signals) signal nobody) 0 ⌝ }
@@ -43,7 +51,7 @@ fn place_of<'a>(m: &'a [u8], p: &'a [u8], signals: Names, signal: usize) -> Foun
     }
 }
 
-// Whether one of two automata has the signal.
+// Tells whether one of two automata has the signal.
 fn is_either(a: Automaton, b: Automaton, signal: usize) -> bool
     ensures { λ r. ⌜ r ≡ (isDeclared a signal || isDeclared b signal) ⌝ }
 {
@@ -61,13 +69,13 @@ fn find_in<'a>(
 ) -> Found
     ensures { λ r. ⌜ r ≡ foundIn (readBoth spelling (length (now (cm .entry))) (now (m .entry)) (length (now (cp .entry))) (now (p .entry))) signal ⌝ }
 {
-    let told = texts::read_both(m, p, spelling, cm, cp);
-    if told.refused {
-        let refusal = told.refusal;
+    let reading = texts::read_both(m, p, spelling, cm, cp);
+    if reading.refused {
+        let refusal = reading.refusal;
         return nowhere(refusal.number);
     }
-    let first = told.first;
-    let second = told.second;
+    let first = reading.first;
+    let second = reading.second;
     let signals = second.signals;
     if !is_either(first.header, second.header, signal) {
         return nowhere(12);
@@ -79,12 +87,12 @@ fn find_in<'a>(
 fn find_alone_in(m: &[u8], spelling: Spelling, signal: usize, cells: &mut [u16]) -> Found
     ensures { λ r. ⌜ r ≡ foundAloneIn (readAlone spelling (length (now (cells .entry))) (now (m .entry))) signal ⌝ }
 {
-    let told = texts::read_one(m, spelling, cells);
-    if told.refused {
-        let refusal = told.refusal;
+    let reading = texts::read_one(m, spelling, cells);
+    if reading.refused {
+        let refusal = reading.refusal;
         return nowhere(refusal.number);
     }
-    let state = told.state;
+    let state = reading.state;
     let signals = state.signals;
     if !entries::is_declared(state.header, signal) {
         return nowhere(12);

@@ -12,14 +12,14 @@ pub struct State {
 }
 
 // Result of reading a text: the state at its end; or, if `refused`, why it is refused.
-pub struct Told {
+pub struct TextRead {
     pub refused: bool,
     pub refusal: TextRefusal,
     pub state: State,
 }
 
 // Result of reading two texts: the state at the end of each; or, if `refused`, why they are refused.
-pub struct Both {
+pub struct TextsRead {
     pub refused: bool,
     pub refusal: TextRefusal,
     pub first: State,

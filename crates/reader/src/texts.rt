@@ -7,17 +7,16 @@ ghost use Rattle.text.specs.Reading.{textOf};
 ghost use Rattle.names.specs.Numbering.{Fit};
 ghost use Rattle.reader.specs.State.{freshState, Blank, numberIn, ReadsLines, Reads, ReadsOne, joined, ReadsBoth};
 use crate::entries;
-use crate::state::Both;
 use crate::state::State;
-use crate::state::Told;
+use crate::state::TextRead;
+use crate::state::TextsRead;
 use lines::Line;
 use names::Names;
 use text::Place;
 use text::Spelling;
 use text::TextRefusal;
-use theory::Automaton;
 
-// The state before the first line.
+// Returns the state before the first line.
 fn fresh(signals: Names) -> State
     ensures { λ r. ⌜ r ≡ freshState signals ⌝ }
 {
@@ -28,11 +27,11 @@ fn fresh(signals: Names) -> State
     }
 }
 
-// The refusal of a text that ends at a line, or at none.
-fn refuse(number: u32, text: u8, line: usize, state: State) -> Told
+// Makes the result of a text that is refused at a line, or at none.
+fn refuse(number: u32, text: u8, line: usize, state: State) -> TextRead
     ensures { λ r. ⌜ r ≡ record { refused = true; refusal = record { number = number; text = text; line = line }; state = state } ⌝ }
 {
-    Told {
+    TextRead {
         refused: true,
         refusal: TextRefusal {
             number,
@@ -43,7 +42,7 @@ fn refuse(number: u32, text: u8, line: usize, state: State) -> Told
     }
 }
 
-// The number of a refused line; 0 of any other.
+// Gives the number of a refused line, and 0 for any other.
 fn refusal_of(parsed: Line) -> u32
     ensures { λ r. ⌜ r ≡ numberIn parsed ⌝ }
 {
@@ -53,7 +52,7 @@ fn refusal_of(parsed: Line) -> u32
     }
 }
 
-// The lines of a text, into blank cells. After the last LF nothing may stand (14).
+// Reads the lines of a text into blank cells. After the last LF nothing may stand (14).
 fn read_lines<'a>(
     m: &'a [u8],
     p: &'a [u8],
@@ -61,7 +60,7 @@ fn read_lines<'a>(
     spelling: Spelling,
     signals: Names,
     cells: &mut [u16],
-) -> Told
+) -> TextRead
     requires { ⌜ Fit (now m) (now p) signals ⌝ }
     requires { ⌜ Blank (now cells) ⌝ }
     requires { ⌜ length (textOf (now m) (now p) text) ≤ 65536 ⌝ }
@@ -89,7 +88,7 @@ fn read_lines<'a>(
         at += length + 1;
         number += 1;
     }
-    Told {
+    TextRead {
         refused: false,
         refusal: TextRefusal {
             number: 0,
@@ -108,7 +107,7 @@ fn read<'a>(
     spelling: Spelling,
     signals: Names,
     cells: &mut [u16],
-) -> Told
+) -> TextRead
     requires { ⌜ Fit (now m) (now p) signals ⌝ }
     requires { ⌜ text < 4 ⌝ }
     ensures { λ r. ⌜ Reads (now (m .entry)) (now (p .entry)) text spelling signals (length (now (cells .entry))) r (now (cells .exit)) ⌝ }
@@ -121,26 +120,26 @@ fn read<'a>(
     if bytes.len() == 0 {
         return refuse(22, text, 0, fresh(signals));
     }
-    let told = read_lines(m, p, text, spelling, signals, cells);
-    table::clear_if(told.refused, cells);
-    told
+    let reading = read_lines(m, p, text, spelling, signals, cells);
+    table::clear_if(reading.refused, cells);
+    reading
 }
 
 // Reads a text alone: it counts as the first, and its signals are numbered from 0.
-pub fn read_one(m: &[u8], spelling: Spelling, cells: &mut [u16]) -> Told
+pub fn read_one(m: &[u8], spelling: Spelling, cells: &mut [u16]) -> TextRead
     ensures { λ r. ⌜ ReadsOne (now (m .entry)) spelling (length (now (cells .entry))) r (now (cells .exit)) ⌝ }
 {
     read(m, m, 1, spelling, names::none(), cells)
 }
 
-// What came of the first text and of the second. Where the first is refused, nothing is read of the second, and it stands for both.
-fn join(first: Told, second: Told) -> Both
+// Puts the results of two texts together. If the first is refused, nothing is read of the second, and the first stands for both.
+fn join(first: TextRead, second: TextRead) -> TextsRead
     ensures { λ r. ⌜ r ≡ joined first second ⌝ }
 {
     let refusal = second.refusal;
     let start = first.state;
     let end = second.state;
-    Both {
+    TextsRead {
         refused: second.refused,
         refusal,
         first: start,
@@ -155,7 +154,7 @@ pub fn read_both<'a>(
     spelling: Spelling,
     cm: &mut [u16],
     cp: &mut [u16],
-) -> Both
+) -> TextsRead
     ensures { λ r. ⌜ ReadsBoth (now (m .entry)) (now (p .entry)) spelling (length (now (cm .entry))) (length (now (cp .entry))) r (now (cm .exit)) (now (cp .exit)) ⌝ }
 {
     let none = names::none();

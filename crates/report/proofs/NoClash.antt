@@ -25,7 +25,7 @@ use Rattle.text.specs.Writing.{nameOf, misnamed, ambiguous, textLength, writerC
 use Rattle.text.proofs.Names.{match-sym}
 use Rattle.text.proofs.Archive.{unlike-both}
 use Rattle.writer.specs.declared.Printed.the-variants as reply
-use Rattle.writer.specs.Replies.{writerReply}
+use Rattle.writer.specs.Contract.{writerReply}
 use Rattle.report.specs.SignalNames.{signalNames}
 
 -- ---- the first check that applies

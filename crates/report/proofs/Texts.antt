@@ -16,7 +16,7 @@ use Rattle.emit.specs.Buffer.{stored, after}
 use Rattle.emit.proofs.Buffer.{Puts}
 use Rattle.writer.specs.declared.Printed.{Printed}
 use Rattle.writer.specs.declared.Printed.the-variants as reply
-use Rattle.writer.specs.Replies.{writerReply}
+use Rattle.writer.specs.Contract.{writerReply}
 use Rattle.writer.proofs.Replies.{refused-of, accepted-of, room-grows}
 use Rattle.report.specs.SignalNames.{sequencerWord}
 use Rattle.report.specs.Lines.{refusalText}

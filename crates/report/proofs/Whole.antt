@@ -23,7 +23,7 @@ use Rattle.emit.specs.Buffer.{stored, after}
 use Rattle.emit.proofs.Buffer.{Puts}
 use Rattle.names.specs.Numbering.{signalsOf, tableOf}
 use Rattle.reader.specs.declared.NamedTables.{NamedTables}
-use Rattle.reader.specs.Replies.{signalsRead, namedReply}
+use Rattle.reader.specs.Contract.{signalsRead, namedReply}
 use Rattle.report.specs.SignalNames.{signalNames, namesIn}
 use Rattle.report.proofs.SignalNames.{named-signals}
 use Rattle.report.specs.Lines.{refusalText}

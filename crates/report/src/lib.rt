@@ -1,9 +1,10 @@
-// Makes every byte that the program prints for two texts (document 01, "The program and one full run"), in a lent buffer.
+// Makes every byte that the programs print, in a lent buffer: the report of two texts (document 01, "The program and one full run") and the list of
+// clashes (document 02, S-9).
 ghost use mathlib.Core.Path.{_≡_};
 ghost use mathlib.Core.Bool.{true, false, cond};
 ghost use mathlib.Core.List.{_++_};
 ghost use Prim.Native.Nat.{_*_, _≤_};
-ghost use lib.ListN.{length, take, replicate};
+ghost use lib.ListN.{length, take};
 ghost use Rattle.theory.specs.Table.{table};
 ghost use Rattle.theory.specs.Checks.{first};
 ghost use Rattle.emit.specs.Buffer.{after, stored};
@@ -32,7 +33,7 @@ struct Answer {
     pub end: usize,
 }
 
-// The six lines over what the maker left in its buffers.
+// Puts the six lines over what the maker left in its buffers.
 fn six_lines(
     out: &mut [u8],
     compatible: bool,
@@ -50,7 +51,7 @@ fn six_lines(
     printout::figures(out, compatible, header.states, kept, rounds, steps, ends)
 }
 
-// The line of a refusal after the reading.
+// Puts the line of a refusal after the reading.
 fn refuse(out: &mut [u8], r: Refusal) -> Answer
     ensures { λ a. ⌜ a .refused ≡ true ⌝ }
     ensures { λ a. ⌜ a .end ≡ after (length (now (out .entry))) 0 (refusalText (r .table) (r .number) 0) ⌝ }
@@ -115,7 +116,7 @@ fn with_long_text(
     put_text(names, header, rounds, cells, flags, &mut text, out)
 }
 
-// Puts the six lines and the text, which is made in room that may be too short for it: then in longer room.
+// Puts the six lines and the text if it can be made in this room; if the writer refuses, tries again in the longest room, which gives the refusal.
 fn try_text(
     names: &[&[u8]],
     header: Automaton,
@@ -191,6 +192,7 @@ fn make(
     tell(names, reply, cells, flags, out)
 }
 
+// Returns the lesser of two numbers.
 fn lesser(a: usize, b: usize) -> usize
     ensures { λ r. ⌜ r ≡ lesserOf a b ⌝ }
 {
@@ -200,7 +202,7 @@ fn lesser(a: usize, b: usize) -> usize
     b
 }
 
-// How many pairs the maker is lent for two tables of so many states: as many as there are, or as there is room for; 1,024 at most, whatever is
+// Counts the pairs that the maker is lent for two tables of so many states: as many as there are, or as there is room for; 1,024 at most, whatever is
 // lent here.
 fn pairs_lent(a: usize, b: usize, cells: usize, flags: usize) -> usize
     requires { ⌜ a * b ≤ 16777216 ⌝ }
@@ -235,14 +237,14 @@ fn keep(refused: bool, made: &[u16], kept: &[u8], cells: &mut [u16], flags: &mut
     emit::put(flags, 0, kept);
 }
 
-// Room for the cells of 1,024 pairs: the maker is never lent more.
+// Makes room for the cells of 1,024 pairs: the maker is never lent more.
 fn own_cells() -> [u16; 32768]
     ensures { λ r. ⌜ length r ≡ 32768 ⌝ }
 {
     [65535u16; 32768]
 }
 
-// Room for the flags of 1,024 pairs, a byte for each.
+// Makes room for the flags of 1,024 pairs, a byte for each.
 fn own_flags() -> [u8; 1024]
     ensures { λ r. ⌜ length r ≡ 1024 ⌝ }
 {

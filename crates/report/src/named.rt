@@ -1,5 +1,4 @@
 // Gives the signals of the two tables the names that their texts gave them.
-ghost use mathlib.Core.Path.{_≡_};
 ghost use Prim.Native.Nat.{_*_};
 ghost use lib.ListN.{take};
 ghost use Rattle.theory.specs.Table.{table};

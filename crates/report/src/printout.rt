@@ -33,7 +33,7 @@ pub fn clash_line(out: &mut [u8], at: usize, clash: Clash) -> usize
     emit::number(out, k, first.line, 10)
 }
 
-// The first of the six lines, from the buffer's first byte on.
+// Puts the first of the six lines, from the buffer's first byte on.
 fn verdict(out: &mut [u8], compatible: bool) -> usize
     ensures { λ r. ⌜ r ≡ after (length (now (out .entry))) 0 (verdictText compatible) ⌝ }
     ensures { λ r. ⌜ now (out .exit) ≡ stored (now (out .entry)) 0 (verdictText compatible) ⌝ }
@@ -45,7 +45,7 @@ fn verdict(out: &mut [u8], compatible: bool) -> usize
     emit::field(out, i, b"none", 10)
 }
 
-// A word and a number.
+// Puts a line of a word and a number.
 fn figure(out: &mut [u8], at: usize, word: &[u8], n: usize) -> usize
     ensures { λ r. ⌜ r ≡ after (length (now (out .entry))) at (figureText (now (word .entry)) n) ⌝ }
     ensures { λ r. ⌜ now (out .exit) ≡ stored (now (out .entry)) at (figureText (now (word .entry)) n) ⌝ }

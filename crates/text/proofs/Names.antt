@@ -150,10 +150,3 @@ match-above c n l a e = elim (decLt a (firstMatch c n l)) [
   | yes h ↦ absurd (let f = match-below c n l a h in let z : _≡_ {A = ℕ} 0 1 = cc in omega arith)
   | no g ↦ omega arith
 ]
-
--- The signal that has the name matches it in every spelling.
-pub first-le-index : (c : Spelling) (n : List ℕ) (l : List Signal) → firstMatch c n l ≤ indexOf n l
-first-le-index c n l = elim (decLt (indexOf n l) (length l)) [
-  | yes h ↦ match-above c n l (indexOf n l) (same-match c (getD l (indexOf n l) nobody .name) n (match-at Exact n l h))
-  | no g ↦ omega (arith, index-le c n l)
-]

@@ -18,7 +18,7 @@ use Rattle.text.specs.Writing.{textLength, writerChecks, writerBytes, SameWriti
 use Rattle.text.proofs.Written.{same-texts, same-checks, enough-room, written-text}
 use Rattle.writer.specs.declared.Printed.{Printed}
 use Rattle.writer.specs.declared.Printed.the-variants as reply
-use Rattle.writer.specs.Replies.{writerReply}
+use Rattle.writer.specs.Contract.{writerReply}
 use Rattle.writer.proofs.Replies.{accepted-of}
 
 abbrev is-length : Printed → Bool

@@ -22,7 +22,7 @@ use Rattle.names.specs.LentNames.{Named, nameChecks}
 use Rattle.names.proofs.Checks.{passed-named, passed-short}
 use Rattle.writer.specs.declared.Printed.{Printed}
 use Rattle.writer.specs.declared.Printed.the-variants as reply
-use Rattle.writer.specs.Replies.{checksBefore, lengthCheck, printReply, printBytes, writerReply}
+use Rattle.writer.specs.Contract.{checksBefore, lengthCheck, printReply, printBytes, writerReply}
 
 -- ---- what a reply says of the checks
 

@@ -7,7 +7,7 @@ ghost use Rattle.theory.specs.Valid.{Valid};
 ghost use Rattle.theory.specs.Checks.{first};
 ghost use Rattle.text.specs.Writing.{textLength, writerBytes};
 ghost use Rattle.names.specs.LentNames.{texts, Named};
-ghost use Rattle.writer.specs.Replies.{checksBefore, printReply, printBytes, writerReply};
+ghost use Rattle.writer.specs.Contract.{checksBefore, printReply, printBytes, writerReply};
 use theory::Automaton;
 use theory::Checked;
 use theory::Refusal;
