@@ -98,6 +98,11 @@ module _ (st : State) (states initial room : ℕ) where
 
 -- ---- a declaration
 
+-- The first that matches byte by byte is the name itself.
+pub number-exact : (m p name : List ℕ) (c : Spelling) (s : Names) (alike : ℕ) → alike ≡ position (isOf m p c name) (entriesOf s) → c ≡ Exact
+    → alike ≡ position (isOf m p Exact name) (entriesOf s)
+number-exact m p name c s alike e f = e ∙ rw f
+
 module _ (m p : List ℕ) (st : State) (name : List ℕ) (number : ℕ) (fit : Fit m p (st .signals))
     (searched : number ≡ position (isOf m p Exact name) (entriesOf (st .signals))) where
   found : number ≡ indexOf name (signalsOf m p (st .signals))

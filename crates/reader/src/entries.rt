@@ -5,11 +5,13 @@ ghost use Prim.Native.Nat.{_<_};
 ghost use lib.Dec.{eqb};
 ghost use lib.ListN.{length, getD, set};
 ghost use Rattle.text.specs.Reading.{withRole};
-ghost use Rattle.names.specs.Numbering.{Fit};
+ghost use Rattle.text.specs.declared.Spelling.the-variants.{Exact};
+ghost use Rattle.names.specs.Numbering.{entriesOf, Fit, position, isOf};
 ghost use Rattle.reader.specs.State.{isDeclared, gone, halted, lacking, Putable, Entry, Sound, Starts, Declares, Steps, Enters, Says};
 use crate::state::State;
 use lines::Record;
 use names::Name;
+use names::Names;
 use text::Place;
 use text::Role;
 use text::Spelling;
@@ -96,6 +98,24 @@ pub fn is_declared(header: Automaton, signal: usize) -> bool
     sets::contains(table::declared(header), signal)
 }
 
+// Finds the number of a name, where `alike` is that of the first name that matches it in a spelling: a second search is needed only if letters are folded.
+fn number_of<'a>(
+    m: &'a [u8],
+    p: &'a [u8],
+    spelling: Spelling,
+    signals: Names,
+    name: &[u8],
+    alike: usize,
+) -> usize
+    requires { ⌜ alike ≡ position (isOf (now m) (now p) spelling (now name)) (entriesOf signals) ⌝ }
+    ensures { λ r. ⌜ r ≡ position (isOf (now (m .entry)) (now (p .entry)) Exact (now (name .entry))) (entriesOf signals) ⌝ }
+{
+    match spelling {
+        Spelling::Exact => alike,
+        Spelling::Folded => names::find(m, p, Spelling::Exact, signals, name),
+    }
+}
+
 // Declares a signal, whose name has this entry: 18, 28, 21.
 fn declare<'a>(
     m: &'a [u8],
@@ -112,11 +132,12 @@ fn declare<'a>(
 {
     let signals = st.signals;
     let header = st.header;
-    let number = names::find(m, p, Spelling::Exact, signals, name);
+    let alike = names::find(m, p, spelling, signals, name);
+    let number = number_of(m, p, spelling, signals, name, alike);
     if is_declared(header, number) {
         return stop(18, st);
     }
-    if names::find(m, p, spelling, signals, name) < number {
+    if alike < number {
         return stop(28, st);
     }
     if 32 <= number {
