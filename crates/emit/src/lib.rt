@@ -1,6 +1,7 @@
 // Puts parts, numbers and lines of table text (document 01, "Table text") into a buffer, from a place on. Each call returns the place after what it
 // put. Text that does not fit is cut off at the end of the buffer, and the place returned is then one past that end: so no call has to ask whether
 // those before it had room.
+#![tactic(auto)]
 ghost use Rattle.std.specs.Prelude.{◌≡◌, [], ◌∷◌, ◌++◌, ◌+◌, ◌%◌, ◌≤◌, ◌<◌, leb, length, take};
 ghost use Rattle.text.specs.Lines.{role_word};
 ghost use Rattle.text.specs.Writing.{decimal};
@@ -109,7 +110,7 @@ pub fn table_line(d: &mut [u8], at: usize, name: &[u8], states: usize, initial: 
 }
 
 // Word of a role, as the first `length` of the bytes.
-#[derive(Drop)]
+#[derive(Clone, Copy)]
 struct Word {
     bytes: [u8; 3],
     length: usize,

@@ -1,9 +1,10 @@
 // Reads a file into a lent buffer.
+#![tactic(auto)]
 ghost use Rattle.std.specs.Prelude.{◌≡◌, ◌≤◌, min, length};
 ghost use Rattle.files.specs.Reading.{taken, Reads};
 
 // Result of reading a file: how many bytes were read, or that the file cannot be read.
-#[derive(Drop)]
+#[derive(Clone, Copy)]
 pub enum File {
     Bytes(usize),
     Unreadable,

@@ -13,7 +13,7 @@ use writer::Printed;
 
 // Reply of any call. A field that the call does not set is 0.
 #[repr(C)]
-#[derive(Drop)]
+#[derive(Clone, Copy)]
 pub struct Reply {
     // Document 01's number, 0 where nothing is refused; the table or text at fault; the line, for readings.
     pub number: u32,

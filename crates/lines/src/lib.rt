@@ -1,5 +1,6 @@
 // Takes lines of table text apart (document 01, "Table text"): gives the fields of a record, or the number of its refusal. Compares and cuts parts, and
 // knows the name rule.
+#![tactic(auto)]
 ghost use Rattle.std.specs.Prelude.{◌≡◌, ℕ, ◌+◌, ◌<◌, length};
 ghost use Rattle.text.specs.Fields.{split, upto};
 ghost use Rattle.text.specs.Lines.{role_word, takes_table, takes_declaration, takes_step, table_line, declaration_line, step_line, parse as entry};
@@ -17,7 +18,7 @@ pub use tokens::is_name;
 
 // Fields of a line. The name of a step stands in the line from the byte `start` on and before the byte `end`; a declared name from the byte
 // `name_start` on, to the end of the line.
-#[derive(Drop)]
+#[derive(Clone, Copy)]
 pub enum Record {
     Table {
         states: usize,
@@ -33,21 +34,21 @@ pub enum Record {
 }
 
 // What `parse` returns: the record of a line and its length without the LF, or the number of its refusal.
-#[derive(Drop)]
+#[derive(Clone, Copy)]
 pub enum Line {
     Taken(Record, usize),
     Refused(u32),
 }
 
 // What `parse_line` returns: the record of a line that is given without its LF, or the number of its refusal.
-#[derive(Drop)]
+#[derive(Clone, Copy)]
 pub enum Parsed {
     Fields(Record),
     Refused(u32),
 }
 
 // Kinds of line.
-#[derive(Drop)]
+#[derive(Clone, Copy)]
 enum Kind {
     TableLine,
     DeclarationLine(Role),
@@ -56,14 +57,14 @@ enum Kind {
 }
 
 // Where the two tabs between three fields stand; `Other` if there are not three fields.
-#[derive(Drop)]
+#[derive(Clone, Copy)]
 enum Cut {
     Three { first: usize, second: usize },
     Other,
 }
 
 // The values of the two numbers of a line, or the number of its refusal.
-#[derive(Drop)]
+#[derive(Clone, Copy)]
 enum Judged {
     Good(usize, usize),
     Bad(u32),

@@ -7,7 +7,7 @@ use crate::tokens::Leading;
 use crate::{scan, tokens};
 
 // Fields of a step, as in `Record`, and the length of its line without the LF; or `Other` for any other line.
-#[derive(Drop)]
+#[derive(Clone, Copy)]
 pub enum Reading {
     Step {
         from: usize,

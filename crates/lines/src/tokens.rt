@@ -6,7 +6,7 @@ ghost use Rattle.lines.specs.Leading.{name_width, leading_number, Digits};
 use text::Number;
 
 // The number that a text begins with and how many digits it has; `Missing` if no number stands there.
-#[derive(Drop)]
+#[derive(Clone, Copy)]
 pub enum Leading {
     Number { value: usize, width: usize },
     Missing,

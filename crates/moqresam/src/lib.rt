@@ -1,5 +1,6 @@
 // The C boundary (document 01, "The parts we ship"; 02, S-5): fit, the count of kept flags, refinement and follower on numbers and byte buffers,
 // where a cell is two bytes, low byte first. include/moqresam.h says the same to C.
+#![tactic(auto)]
 ghost use Rattle.std.specs.Prelude.{◌≡◌, length};
 ghost use Rattle.theory.specs.Table.{kept_count};
 ghost use Rattle.table.specs.Contract.{follow_reply};
@@ -15,7 +16,7 @@ use table::{Followed, Status};
 // Reply of `moqresam_fit`: the number of the refusal and the table at fault, both 0 if nothing is refused; the verdict; how many rounds drop a
 // pair; whether the refusal names a cell, and the state and signal of that cell, 0 if it names none.
 #[repr(C)]
-#[derive(Drop)]
+#[derive(Clone, Copy)]
 pub struct FitReply {
     pub number: u32,
     pub table: u32,
@@ -29,7 +30,7 @@ pub struct FitReply {
 // Reply of `moqresam_refine`: the number of the refusal and the table at fault, both 0 if nothing is refused; the verdict; whether the refusal
 // names a cell, and the state and signal of that cell, 0 if it names none.
 #[repr(C)]
-#[derive(Drop)]
+#[derive(Clone, Copy)]
 pub struct RefineReply {
     pub number: u32,
     pub table: u32,
@@ -42,7 +43,7 @@ pub struct RefineReply {
 // Reply of the follower: the number of the refusal and the table at fault, both 0 if nothing is refused; whether it moved, and the state that it is
 // in now; whether the refusal names a cell, and the state and signal of that cell, 0 if it names none.
 #[repr(C)]
-#[derive(Drop)]
+#[derive(Clone, Copy)]
 pub struct FollowReply {
     pub number: u32,
     pub table: u32,
@@ -134,7 +135,7 @@ fn follow_reply(state: usize, f: Followed) -> FollowReply
 
 // Record of a follower, which the caller lends: its state.
 #[repr(C)]
-#[derive(Drop)]
+#[derive(Clone, Copy)]
 pub struct Follower {
     pub state: usize,
 }

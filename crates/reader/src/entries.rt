@@ -12,7 +12,7 @@ use text::{Place, Role, Spelling};
 use theory::Automaton;
 
 // Result of a line: the state after it; or, if `refused`, the number of the refusal that ends the reading.
-#[derive(Drop)]
+#[derive(Clone, Copy)]
 pub struct Advanced {
     pub refused: bool,
     pub number: u32,

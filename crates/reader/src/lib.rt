@@ -1,5 +1,6 @@
 // Reads table text (document 01, "Table text"), line by line to its end: the texts of a component and a specification (module, plan) together, or a
 // text alone; into lent cells, to find where a name stands, or to list the clashes among the names of two stored texts (document 02, S-9).
+#![tactic(auto)]
 ghost use Rattle.std.specs.Prelude.{◌≡◌, length};
 ghost use Rattle.text.specs.declared.Spelling.TheVariants.{Exact, Folded};
 ghost use Rattle.text.specs.Reading.{neither, read_alone, read_both, cells_alone, cells_first, cells_second};
@@ -24,14 +25,14 @@ pub use lookup::{
 };
 
 // Reply to a text read alone: the header of its automaton, whose cells are in the lent buffer; or a refusal.
-#[derive(Drop)]
+#[derive(Clone, Copy)]
 pub enum Alone {
     Table(Automaton),
     Refused(TextRefusal),
 }
 
 // Reply to two texts read together: the headers of the two automata, whose cells are in the lent buffers; or a refusal.
-#[derive(Drop)]
+#[derive(Clone, Copy)]
 pub enum Together {
     Tables {
         component: Automaton,
@@ -42,7 +43,7 @@ pub enum Together {
 
 // Reply to two texts read together with their names: the headers of the two automata, whose cells are in the lent buffers, and the table of the names
 // that their signals have; or, if `refused`, why, with headers of no state and no name.
-#[derive(Drop)]
+#[derive(Clone, Copy)]
 pub struct NamedTables {
     pub refused: bool,
     pub refusal: TextRefusal,
@@ -52,14 +53,14 @@ pub struct NamedTables {
 }
 
 // Names that clash with one declared before them, in reading order: the first `count` rows; the other rows are not used.
-#[derive(Drop)]
+#[derive(Clone, Copy)]
 pub struct ClashList {
     pub rows: [Clash; 32],
     pub count: usize,
 }
 
 // Reply of `list_clashes`: the clashes; or, if `refused`, why the reading refuses the texts, and no clash.
-#[derive(Drop)]
+#[derive(Clone, Copy)]
 pub struct Listing {
     pub refused: bool,
     pub refusal: TextRefusal,

@@ -13,7 +13,7 @@ use theory::Automaton;
 
 // Where a signal's name was first declared: the text (1 the first, 2 the second), the byte at which the name begins, and its length. If the lookup
 // is refused, `number` says why and all else is 0; if not, `number` is 0.
-#[derive(Drop)]
+#[derive(Clone, Copy)]
 pub struct Found {
     pub number: u32,
     pub text: u32,

@@ -4,7 +4,7 @@ use text::{Place, TextRefusal};
 use theory::Automaton;
 
 // What has been read, but for the lent cells: the place of the next line, the header of the automaton, and the signals so far.
-#[derive(Drop)]
+#[derive(Clone, Copy)]
 pub struct State {
     pub place: Place,
     pub header: Automaton,
@@ -12,7 +12,7 @@ pub struct State {
 }
 
 // Result of reading a text: the state at its end; or, if `refused`, why it is refused.
-#[derive(Drop)]
+#[derive(Clone, Copy)]
 pub struct TextRead {
     pub refused: bool,
     pub refusal: TextRefusal,
@@ -20,7 +20,7 @@ pub struct TextRead {
 }
 
 // Result of reading two texts: the state at the end of each; or, if `refused`, why they are refused.
-#[derive(Drop)]
+#[derive(Clone, Copy)]
 pub struct TextsRead {
     pub refused: bool,
     pub refusal: TextRefusal,

@@ -1,5 +1,6 @@
 // Makes every byte that the programs print, in a lent buffer: the report of two texts (document 01, "The program and one full run") and the list of
 // clashes (document 02, S-9).
+#![tactic(auto)]
 ghost use Rattle.std.specs.Prelude.{◌≡◌, true, false, cond, ◌++◌, ◌*◌, ◌≤◌, length, take};
 ghost use Rattle.theory.specs.Table.{table};
 ghost use Rattle.theory.specs.Checks.{first};
@@ -23,7 +24,7 @@ pub use listing::list;
 pub use programs::{clashes_output, sequencer_output};
 
 // What was put into the lent buffer for two tables: whether it is the line of a refusal, and where it ends.
-#[derive(Drop)]
+#[derive(Clone, Copy)]
 struct Answer {
     pub refused: bool,
     pub end: usize,

@@ -10,7 +10,7 @@ use files::File;
 
 // Result of reading two files: which is the first that cannot be read (1 or 2; 0 if both were read), and how many bytes were read of each (0 unless
 // both were read).
-#[derive(Drop)]
+#[derive(Clone, Copy)]
 struct FilesRead {
     pub unreadable: u32,
     pub first: usize,

@@ -1,4 +1,6 @@
 // Action sets held in 32 bits, action a in bit a (document 01, "A table"): counted, and visited lowest member first.
+#![tactic(auto)]
+
 ghost use Rattle.std.specs.Prelude.{◌≡◌, not, ◌&&◌, cond, ℕ, ◌-◌, ◌^◌, ltb};
 ghost use Rattle.std.specs.Int.Bits.{bit_or};
 ghost use Rattle.std.specs.Int.Count.{count_leading_zeros, count_trailing_zeros};

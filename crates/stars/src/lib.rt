@@ -1,1 +1,2 @@
 // Document 01's starred situations: definitions, and one law about them. There is no code here.
+#![tactic(auto)]

@@ -5,7 +5,7 @@ ghost use Rattle.theory.specs.Checks.{stray as strayOf};
 ghost use Rattle.table.specs.Faults.{fault as faultOf, limit as limitOf, stray_in, SoundBefore, Ended, first_fault};
 
 // Result of `find`: the check that applies, 5 or 6, and the index of the first cell at fault by it; or nothing.
-#[derive(Drop)]
+#[derive(Clone, Copy)]
 pub enum Finding {
     Fault { check: u32, cell: usize },
     Nothing,
@@ -13,7 +13,7 @@ pub enum Finding {
 
 // Where a walk ends: `at` is the index of the first cell at fault, or the number of cells. No cell before `row` is at fault by either check: it is the first
 // row that was not passed over, or the number of rows, and the next walk begins there.
-#[derive(Drop)]
+#[derive(Clone, Copy)]
 struct Walked {
     at: usize,
     row: usize,

@@ -1,5 +1,7 @@
 // All that looks at the cells of one interface automaton (document 01: table), or at the headers of two: judge, mirror, the monitor, the checks
 // that every call begins with, refusals, and counts of what calls leave in buffers.
+#![tactic(auto)]
+
 ghost use Rattle.std.specs.Prelude.{◌≡◌, length, replicate, if◌then◌else◌};
 ghost use Rattle.theory.specs.Table.{table};
 ghost use Rattle.theory.specs.Checks.{first, table_checks};
@@ -23,14 +25,14 @@ pub use refusals::{accepted, refusal, refuse, status_nowhere, status_of};
 pub use sizes::is_ready;
 
 // Reply of `mirror`: the header of the mirror, whose cells are those of the automaton; or a refusal.
-#[derive(Drop)]
+#[derive(Clone, Copy)]
 pub enum Mirrored {
     Mirror(Automaton),
     Refused(Refusal),
 }
 
 // Reply of the monitor: the state it moved to, "not now", or a refusal.
-#[derive(Drop)]
+#[derive(Clone, Copy)]
 pub enum Followed {
     Moved(usize),
     NotNow,
@@ -38,7 +40,7 @@ pub enum Followed {
 }
 
 // Lengths of the result buffers of a call on two tables: cells, 32 for each state pair; bytes, one for each; or both.
-#[derive(Drop)]
+#[derive(Clone, Copy)]
 pub enum Room {
     Cells(usize),
     Bytes(usize),
@@ -47,7 +49,7 @@ pub enum Room {
 
 // A refusal in plain numbers, for C: its number, the table at fault, whether it names a cell, and the state and action of that cell. All fields are
 // 0 (false) if nothing is refused; state and action are 0 if no cell is named.
-#[derive(Drop)]
+#[derive(Clone, Copy)]
 pub struct Status {
     pub number: u32,
     pub table: u32,

@@ -1,4 +1,5 @@
 // Writes the text of a table (document 01, "Table text").
+#![tactic(auto)]
 ghost use Rattle.std.specs.Prelude.{◌≡◌, ◌≤◌, length};
 ghost use Rattle.theory.specs.Table.{declared_set, table};
 ghost use Rattle.theory.specs.Valid.{Valid};
@@ -12,7 +13,7 @@ use theory::{Automaton, Checked, Refusal};
 mod rows;
 
 // Reply of `write`: the length of the text, which stands in the lent buffer; or a refusal.
-#[derive(Drop)]
+#[derive(Clone, Copy)]
 pub enum Printed {
     Length(usize),
     Refused(Refusal),

@@ -1,0 +1,5 @@
+use Rattle.sets.proofs.Members.{ones_count}
+use Rattle.sets.proofs.size.Goals as goal
+
+pub returns : goal.returns
+returns c = ones_count 32 c.args.s c.ranges.s.fits
