@@ -1,5 +1,6 @@
 // The calls of the C archive on tables whose cells are bytes, as a C program holds them: the monitor (document 01: follower), fit and refinement.
 #![tactic(auto)]
+
 ghost use Rattle.std.specs.Prelude.{◌≡◌};
 ghost use Rattle.table.specs.Contract.{follow_reply};
 ghost use Rattle.packed.specs.Bytes.{byte_table};
