@@ -1,6 +1,7 @@
 // The C boundary (document 01, "The parts we ship"; 02, S-5): fit, the count of kept flags, refinement and follower on numbers and byte buffers,
 // where a cell is two bytes, low byte first. include/moqresam.h says the same to C.
 #![tactic(auto)]
+
 ghost use Rattle.std.specs.Prelude.{◌≡◌, length};
 ghost use Rattle.theory.specs.Table.{kept_count};
 ghost use Rattle.table.specs.Contract.{follow_reply};
