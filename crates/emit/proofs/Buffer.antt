@@ -45,15 +45,18 @@ stored-after d at s t = elim (dec_le (at + length s) (length d)) [
 
 -- s was put into d at a place: the place after it is r, and the buffer is then b.
 abbrev pub Puts : List ℕ → ℕ → List ℕ → ℕ → List ℕ → Type 0
-Puts d at s r b = (r ≡ after (length d) at s) × (b ≡ stored d at s)
+Puts d at s r b = record { value : r ≡ after (length d) at s; d_after : b ≡ stored d at s }
 
 pub puts_none : (d : List ℕ) (at : ℕ) → Puts d at [] at d
 unfolding after stored
-puts_none d at = (let z : at ≡ at + min 0 (suc (length d) - at) = omega arith in z, refl)
+puts_none d at = let z : at ≡ at + min 0 (suc (length d) - at) = omega arith in record { value = z; d_after = refl }
 
 pub puts_then : (d : List ℕ) (at : ℕ) (s t : List ℕ) (r r' : ℕ) (b b' : List ℕ) → Puts d at s r b → Puts b r t r' b' → Puts d at (s ++ t) r' b'
-puts_then d at s t r r' b b' (p, q) (p', q') =
-    (p' ∙ rw (q, length-stored d at s, p) (after-append (length d) at s t), q' ∙ rw (q, p) (stored-after d at s t))
+puts_then d at s t r r' b b' w v =
+    record {
+      value = v.value ∙ rw (w.d_after, length-stored d at s, w.value) (after-append (length d) at s t);
+      d_after = v.d_after ∙ rw (w.d_after, w.value) (stored-after d at s t);
+    }
 
 -- ---- `copy`
 
@@ -74,7 +77,7 @@ copied_all d₀ s d at i h e = rw (drop_of_length-le s h) at e
 module _ (d : List ℕ) (at : ℕ) (s : List ℕ) where
   pub put_beyond : length d < at → Puts d at s at d
   unfolding after
-  put_beyond h = (omega arith, sym (stored_beyond d at s (omega arith)))
+  put_beyond h = record { value = omega arith; d_after = sym (stored_beyond d at s (omega arith)) }
 
   pub put_cut : at ≤ length d → length d - at < length s → (b : List ℕ) → b ≡ stored d at (take (length d - at - 0) s) → Puts d at s (length b + 1) b
   unfolding after
@@ -82,16 +85,18 @@ module _ (d : List ℕ) (at : ℕ) (s : List ℕ) where
       let z : length d - at - 0 ≡ length d - at = omega arith in
       let f : b ≡ stored d at (take (length d - at) s) = rw z at e in
       let n : length (take (length d - at) s) ≡ length d - at = length-take-le _ s (omega arith) in
-      let m : length (stored d at (take (length d - at) s)) ≡ length d = length-stored d at _ in (
-        omega (arith, ap length f),
-        f ∙ sym (
+      let m : length (stored d at (take (length d - at) s)) ≡ length d = length-stored d at _ in
+      record {
+        value = omega (arith, ap length f);
+        d_after =
+            f ∙ sym (
             ap (stored d at) (sym (take-append-drop (length d - at) s)) ∙ stored-append d at (take (length d - at) s) (drop (length d - at) s)
-            ∙ stored_beyond _ _ (drop (length d - at) s) (omega arith)),
-      )
+            ∙ stored_beyond _ _ (drop (length d - at) s) (omega arith));
+      }
 
   pub put_whole : at ≤ length d → length s ≤ length d - at → (b : List ℕ) → b ≡ stored d at s → Puts d at s (at + length s) b
   unfolding after
-  put_whole h k b e = (omega arith, e)
+  put_whole h k b e = record { value = omega arith; d_after = e }
 
 -- ---- a text for which there is room
 

@@ -106,29 +106,29 @@ module _ (bytes at name : ℕ) where
 
 -- A field and the byte that ends it were put into d, whole.
 abbrev Ended : List ℕ → ℕ → List ℕ → ℕ → ℕ → List ℕ → Type 0
-Ended d at s end r b = (r ≡ at + length s + 1) × (b ≡ stored d at (s ++ end ∷ []))
+Ended d at s end r b = record { value : r ≡ at + length s + 1; d_after : b ≡ stored d at (s ++ end ∷ []) }
 
 ended_puts : (d : List ℕ) (at : ℕ) (s : List ℕ) (end r : ℕ) (b : List ℕ) → Ended d at s end r b → at + length s < length d → Puts d at (s ++ end ∷ []) r b
 unfolding after
-ended_puts d at s end r b (e, f) h = (omega (arith, e, length-append s (end ∷ [])), f)
+ended_puts d at s end r b w h = record { value = omega (arith, w.value, length-append s (end ∷ [])); d_after = w.d_after }
 
 ended-length : (d : List ℕ) (at : ℕ) (s : List ℕ) (end r : ℕ) (b : List ℕ) → Ended d at s end r b → length b ≡ length d
-ended-length d at s end r b (e, f) = ap length f ∙ length-stored d at (s ++ end ∷ [])
+ended-length d at s end r b w = ap length w.d_after ∙ length-stored d at (s ++ end ∷ [])
 
 module _ (d : List ℕ) (at : ℕ) (name : List ℕ) (from : ℕ) (room : at + length name + 18 ≤ length d) (i j : ℕ) (b₁ b₂ : List ℕ)
     (word : Ended d at step_word 9 i b₁) (source : Ended b₁ i (decimal from) 9 j b₂) where
   pub name-room : j + length name < length b₂
-  name-room = omega (arith, word.0, source.0, decimal_most from, ended-length d at step_word 9 i b₁ word, ended-length b₁ i (decimal from) 9 j b₂ source)
+  name-room = omega (arith, word.value, source.value, decimal_most from, ended-length d at step_word 9 i b₁ word, ended-length b₁ i (decimal from) 9 j b₂ source)
 
   module _ (k : ℕ) (b₃ : List ℕ) (signal : Ended b₂ j name 9 k b₃) where
     pub target_room : k + 6 ≤ length b₃
     target_room =
-        omega (arith, word.0, source.0, signal.0, decimal_most from, ended-length d at step_word 9 i b₁ word, ended-length b₁ i (decimal from) 9 j b₂ source, ended-length b₂ j name 9 k b₃ signal)
+        omega (arith, word.value, source.value, signal.value, decimal_most from, ended-length d at step_word 9 i b₁ word, ended-length b₁ i (decimal from) 9 j b₂ source, ended-length b₂ j name 9 k b₃ signal)
 
     pub step_put : (to r : ℕ) (b₄ : List ℕ) → Ended b₃ k (decimal to) 10 r b₄ → Puts d at (step_text from name to) r b₄
     step_put to r b₄ target =
         line_four d at step_word (decimal from) name (decimal to) i j k r b₁ b₂ b₃ b₄
         (ended_puts d at step_word 9 i b₁ word (omega arith))
-        (ended_puts b₁ i (decimal from) 9 j b₂ source (omega (arith, word.0, decimal_most from, ended-length d at step_word 9 i b₁ word)))
+        (ended_puts b₁ i (decimal from) 9 j b₂ source (omega (arith, word.value, decimal_most from, ended-length d at step_word 9 i b₁ word)))
         (ended_puts b₂ j name 9 k b₃ signal name-room)
         (ended_puts b₃ k (decimal to) 10 r b₄ target (omega (arith, target_room, decimal_most to)))

@@ -2,6 +2,7 @@
 // put. Text that does not fit is cut off at the end of the buffer, and the place returned is then one past that end: so no call has to ask whether
 // those before it had room.
 #![tactic(auto)]
+
 ghost use Rattle.std.specs.Prelude.{◌≡◌, [], ◌∷◌, ◌++◌, ◌+◌, ◌%◌, ◌≤◌, ◌<◌, leb, length, take};
 ghost use Rattle.text.specs.Lines.{role_word};
 ghost use Rattle.text.specs.Writing.{decimal};
