@@ -18,7 +18,7 @@ use Rattle.theory.proofs.Bounded.{any_at, at-any}
 use Rattle.theory.proofs.Table.{table-narrow}
 use Rattle.text.specs.Roles.{has_role}
 use Rattle.text.specs.Reading.{Signal, Reading, table_read}
-use Rattle.text.specs.Writing.{signals, name_of}
+use Rattle.text.specs.Writing.{name_of}
 use Rattle.text.specs.Lookup.{nobody, declares}
 use Rattle.text.proofs.Roles.{roles_at, no_role, some_role}
 use Rattle.roundtrip.specs.RoundTrip.{ReadAgain}
