@@ -1,6 +1,7 @@
 // Takes lines of table text apart (document 01, "Table text"): gives the fields of a record, or the number of its refusal. Compares and cuts parts, and
 // knows the name rule.
 #![tactic(auto)]
+
 ghost use Rattle.std.specs.Prelude.{◌≡◌, ℕ, ◌+◌, ◌<◌, length};
 ghost use Rattle.text.specs.Fields.{split, upto};
 ghost use Rattle.text.specs.Lines.{role_word, takes_table, takes_declaration, takes_step, table_line, declaration_line, step_line, parse as entry};
