@@ -6,7 +6,7 @@ use mathlib.Core.List.{List, [], ◌∷◌}
 use Prim.Native.Nat.{ℕ, zero, suc, ◌-◌, ◌^◌, ◌≤◌, ◌<◌}
 use native.Mathlib.Omega.{arith}
 use native.Mathlib.Decide.{dec_lt}
-use denote.Ref.{Bor, MutBor}
+use denote.Ref.{Bor}
 use lib.Count.{count_trailing_zeros}
 use lib.Dec.{T, eqb}
 use lib.ListN.{length, get_or, length-map, get_or-eq_default}
@@ -28,7 +28,7 @@ use Rattle.names.specs.LentNames.{texts, any_of, repeated, Named}
 
 -- ---- the lent names
 
-pub name-lent : (l : List (MutBor (List ℕ))) (i : ℕ) (d : MutBor (List ℕ)) → i < length l → (get_or l i d).now ≡ name_of (texts l) i
+pub name-lent : (l : List (Bor (List ℕ))) (i : ℕ) (d : Bor (List ℕ)) → i < length l → (get_or l i d).now ≡ name_of (texts l) i
 name-lent [] i d h = absurd (omega arith)
 name-lent (x ∷ l) zero d h = refl
 name-lent (x ∷ l) (suc i) d h = name-lent l i d (omega arith)
@@ -98,7 +98,7 @@ pub bad_missing : (names : List (List ℕ)) (i : ℕ) → length names ≤ i →
 unfolding name_ok
 bad_missing names i h = rw (no_name names i h)
 
-module _ (l : List (MutBor (List ℕ))) (i : ℕ) (d : MutBor (List ℕ)) (h : i < length l) (r b : Bool) where
+module _ (l : List (Bor (List ℕ))) (i : ℕ) (d : Bor (List ℕ)) (h : i < length l) (r b : Bool) where
   pub bad-told : r ≡ name_ok (get_or l i d).now → not r ≡ b → not (name_ok (name_of (texts l) i)) ≡ b
   bad-told e f = ap (λ (x : List ℕ). not (name_ok x)) (sym (name-lent l i d h)) ∙ ap not (sym e) ∙ f
 
