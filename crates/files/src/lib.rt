@@ -1,7 +1,12 @@
 // Reads a file into a lent buffer.
 #![tactic(auto)]
-ghost use Rattle.std.specs.Prelude.{◌≡◌, ◌≤◌, min, length};
+
+ghost use Rattle.std.specs.Prelude.{◌≡◌, ◌≤◌, min, length, IfSome};
 ghost use Rattle.files.specs.Reading.{taken, Reads};
+
+use std::io::{ErrorKind, Read};
+use std::rt::Files;
+use std::{fs, str};
 
 // Result of reading a file: how many bytes were read, or that the file cannot be read.
 #[derive(Clone, Copy)]
@@ -15,20 +20,20 @@ const ATTEMPTS: usize = 1000;
 
 // Reads the file from its start until the buffer is full, the file ends, or 65,537 bytes are read: one more than the longest text has, so that a
 // longer one is noticed. A file that is missing, is a folder, or fails to be read is unreadable, and leaves the buffer as it was.
-pub fn read(path: &[u8], buf: &mut [u8]) -> File
+pub fn read(rt: &impl Files, path: &[u8], buf: &mut [u8]) -> File
     ensures { Reads result buf.old buf.new }
 {
     let mut room = [0u8; 65537];
-    read_in(path, &mut room, buf)
+    read_in(rt, path, &mut room, buf)
 }
 
 // Reads into the room, and copies the bytes into the buffer once the whole reading has succeeded: a read can fail after others brought bytes.
-fn read_in(path: &[u8], room: &mut [u8], buf: &mut [u8]) -> File
+fn read_in(rt: &impl Files, path: &[u8], room: &mut [u8], buf: &mut [u8]) -> File
     requires { length room.old ≡ 65537 }
     ensures { Reads result buf.old buf.new }
 {
     let wanted = lesser(room.len(), buf.len());
-    let file = fetch(path, &mut room[0..wanted]);
+    let file = fetch(rt, path, &mut room[0..wanted]);
     let n = taken(file);
     emit::put(buf, 0, &room[0..n]);
     file
@@ -50,31 +55,29 @@ fn taken(file: File) -> usize
     }
 }
 
-// Opens the file and fills the room from it.
-fn fetch(path: &[u8], room: &mut [u8]) -> File
+// Opens the file and fills the room from it. The library takes a path as text, so one that is not UTF-8 cannot be opened.
+fn fetch(rt: &impl Files, path: &[u8], room: &mut [u8]) -> File
     ensures { taken result ≤ length room.new }
 {
-    let fd = os::open_read(path);
-    if fd < 0 {
+    let Ok(name) = str::from_utf8(path) else {
         return File::Unreadable;
-    }
-    let filled = fill(fd, room);
-    libc::close(fd);
-    filled
+    };
+    let Ok(mut file) = fs::open(rt, name) else {
+        return File::Unreadable;
+    };
+    fill(&mut file, room)
 }
 
 // Each round asks for all that is left of the room. Of full room nothing is left, and that round is the last; so a folder is noticed
 // even where there is no room.
-fn fill(fd: i32, room: &mut [u8]) -> File
+fn fill(file: &mut impl Read, room: &mut [u8]) -> File
     ensures { taken result ≤ length room.new }
 {
     let mut done: usize = 0;
     loop {
-        let got = attempt(fd, &mut room[done..]);
-        if got < 0 {
+        let Some(n) = attempt(file, &mut room[done..]) else {
             return File::Unreadable;
-        }
-        let n = io::count(got, &room[done..]);
+        };
         if n == 0 {
             return File::Bytes(done);
         }
@@ -82,16 +85,19 @@ fn fill(fd: i32, room: &mut [u8]) -> File
     }
 }
 
-// One read, made again where a signal interrupted it. Negative where it fails.
-fn attempt(fd: i32, buf: &mut [u8]) -> isize {
+// One read, made again where a signal interrupted it. None where it fails.
+fn attempt(file: &mut impl Read, buf: &mut [u8]) -> Option<usize>
+    ensures { IfSome result (λ n. n ≤ length buf.new) }
+{
     for _ in 0..ATTEMPTS {
-        let got = libc::read(fd, buf);
-        if got >= 0 {
-            return got;
-        }
-        if os::errno() != libc::EINTR {
-            return -1;
+        match file.read(buf) {
+            Ok(n) => return Some(n),
+            Err(e) => {
+                if e.kind() != ErrorKind::Interrupted {
+                    return None;
+                }
+            }
         }
     }
-    -1
+    None
 }
