@@ -2,6 +2,7 @@
 // name differs from an earlier one only in the case of letters. The library makes every byte of the list, also for a file that cannot be read; here
 // files are read, room is lent and the list is printed.
 #![tactic(auto)]
+
 ghost use Rattle.std.specs.Prelude.{◌≡◌, length};
 
 use libc::STDOUT_FILENO;

@@ -1,6 +1,7 @@
 // Tests the limits: prints which sizes and numbers the calls accept and which they refuse, by document 01's numbers. The output is compared with
 // the file stdout.
 #![tactic(auto)]
+
 ghost use Rattle.std.specs.Prelude.{◌≤◌};
 ghost use Rattle.limits.specs.Room.{Room};
 

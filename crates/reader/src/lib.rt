@@ -1,6 +1,7 @@
 // Reads table text (document 01, "Table text"), line by line to its end: the texts of a component and a specification (module, plan) together, or a
 // text alone; into lent cells, to find where a name stands, or to list the clashes among the names of two stored texts (document 02, S-9).
 #![tactic(auto)]
+
 ghost use Rattle.std.specs.Prelude.{◌≡◌, length};
 ghost use Rattle.text.specs.declared.Spelling.TheVariants.{Exact, Folded};
 ghost use Rattle.text.specs.Reading.{neither, read_alone, read_both, cells_alone, cells_first, cells_second};

@@ -1,6 +1,7 @@
 // Makes every byte that the programs print, in a lent buffer: the report of two texts (document 01, "The program and one full run") and the list of
 // clashes (document 02, S-9).
 #![tactic(auto)]
+
 ghost use Rattle.std.specs.Prelude.{◌≡◌, true, false, cond, ◌++◌, ◌*◌, ◌≤◌, length, take};
 ghost use Rattle.theory.specs.Table.{table};
 ghost use Rattle.theory.specs.Checks.{first};

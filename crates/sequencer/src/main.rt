@@ -1,6 +1,7 @@
 // The program (document 01, "The program and one full run"): reads module.tab and plan.tab in the current folder and prints their report. The
 // library makes every byte of the report, also for a file that cannot be read; here files are read, room is lent and the report is printed.
 #![tactic(auto)]
+
 ghost use Rattle.std.specs.Prelude.{◌≡◌, length};
 
 use libc::STDOUT_FILENO;

@@ -1,5 +1,6 @@
 // Writes the text of a table (document 01, "Table text").
 #![tactic(auto)]
+
 ghost use Rattle.std.specs.Prelude.{◌≡◌, ◌≤◌, length};
 ghost use Rattle.theory.specs.Table.{declared_set, table};
 ghost use Rattle.theory.specs.Valid.{Valid};

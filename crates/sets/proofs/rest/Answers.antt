@@ -10,5 +10,5 @@ pub overflow_sub-result : goal.overflow_sub-result
 overflow_sub-result c =
     let at : Low 32 c.args.s (count_trailing_zeros 32 c.args.s) = low 32 c.args.s (omega arith) c.ranges.s.fits in
     let one : (1 * 2 ^ count_trailing_zeros 32 c.args.s) % 2 ^ 32 ≡ 2 ^ count_trailing_zeros 32 c.args.s
-        = rw one-mul (mod-eq_of_lt (omega (arith, at.within, c.ranges.s.fits))) in
+    = rw one-mul (mod-eq_of_lt (omega (arith, at.within, c.ranges.s.fits))) in
     rw one at.within
