@@ -9,14 +9,18 @@ use Rattle.emit.proofs.Buffer.{length-stored, stored-append}
 
 -- s was put into d at a place: the place after it is r, and the buffer is then b.
 abbrev pub Counts : List ℕ → ℕ → List ℕ → ℕ → List ℕ → Type 0
-Counts d at s r b = (r ≡ at + length s) × (b ≡ stored d at s)
+Counts d at s r b = record { value : r ≡ at + length s; out_after : b ≡ stored d at s }
 
 pub counts_none : (d : List ℕ) (at : ℕ) → Counts d at [] at d
 unfolding stored
-counts_none d at = (let z : at ≡ at + 0 = omega arith in z, refl)
+counts_none d at = let z : at ≡ at + 0 = omega arith in record { value = z; out_after = refl }
 
 pub counts_then : (d : List ℕ) (at : ℕ) (s t : List ℕ) (r r' : ℕ) (b b' : List ℕ) → Counts d at s r b → Counts b r t r' b' → Counts d at (s ++ t) r' b'
-counts_then d at s t r r' b b' (p, q) (p', q') = (omega (arith, p, p', length-append s t), q' ∙ rw (q, p) (sym (stored-append d at s t)))
+counts_then d at s t r r' b b' w v =
+    record {
+      value = omega (arith, w.value, v.value, length-append s t);
+      out_after = v.out_after ∙ rw (w.out_after, w.value) (sym (stored-append d at s t));
+    }
 
 -- What is left of a text, put after what stands there, gives the whole.
 pub record Left (d₀ : List ℕ) (at₀ : ℕ) (whole d : List ℕ) (at : ℕ) (rest : List ℕ) : Type 0 where
@@ -29,15 +33,15 @@ left-all d at whole rest e = record { size = refl; ends = ap (λ l. at + length 
 
 module _ (d₀ : List ℕ) (at₀ : ℕ) (whole d : List ℕ) (at : ℕ) (rest : List ℕ) (l : Left d₀ at₀ whole d at rest) where
   pub left-next : (s t : List ℕ) (r : ℕ) (b : List ℕ) → rest ≡ s ++ t → Counts d at s r b → Left d₀ at₀ whole b r t
-  left-next s t r b e (p, q) = record {
-    size = ap length q ∙ length-stored d at s ∙ l.size;
-    ends = omega (arith, l.ends, ap length e, length-append s t, p);
-    text = rw (q, p) (sym (stored-append d at s t) ∙ (rw e at l.text));
+  left-next s t r b e w = record {
+    size = ap length w.out_after ∙ length-stored d at s ∙ l.size;
+    ends = omega (arith, l.ends, ap length e, length-append s t, w.value);
+    text = rw (w.out_after, w.value) (sym (stored-append d at s t) ∙ (rw e at l.text));
   }
 
   pub left-none : rest ≡ [] → Counts d₀ at₀ whole at d
   unfolding stored
-  left-none e = (omega (arith, l.ends, ap length e), rw e at l.text)
+  left-none e = record { value = omega (arith, l.ends, ap length e); out_after = rw e at l.text }
 
   -- The end of the next part fits a number of 64 bits, since that of the whole does.
   pub left-room : (s t : List ℕ) → rest ≡ s ++ t → at₀ + length whole < 2 ^ 64 → at + length s < 2 ^ 64

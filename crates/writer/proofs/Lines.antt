@@ -8,7 +8,7 @@ use Prim.Native.Nat.{ℕ, zero, suc, ◌+◌, ◌-◌, ◌*◌, ◌^◌, ◌≤�
 use native.Mathlib.Decide.{dec_lt}
 use native.Mathlib.Numerals.{add-one}
 use native.Mathlib.Omega.{arith}
-use denote.Ref.{Bor, MutBor}
+use denote.Ref.{Bor}
 use lib.Count.{count_trailing_zeros}
 use lib.Dec.{T, ltb}
 use lib.ListN.{length, get_or, length-append}
@@ -73,7 +73,7 @@ module _ (n state : ℕ) (cell : ℕ) where
   pub cell-none : (d : List ℕ) (at : ℕ) (name : List ℕ) → n ≤ cell → Counts d at (cell_text n state name cell) at d
   cell-none d at name h = rw (le-ltb cell n h) (counts_none d at)
 
-  module _ (l : List (MutBor (List ℕ))) (i : ℕ) (x : MutBor (List ℕ)) (step : cell < n) (there : i < length l) where
+  module _ (l : List (Bor (List ℕ))) (i : ℕ) (x : Bor (List ℕ)) (step : cell < n) (there : i < length l) where
     cell-text : cell_text n state (name_of (texts l) i) cell ≡ step_text state (get_or l i x).now cell
     cell-text = rw (lt-ltb cell n step, name-lent l i x there)
 
@@ -273,10 +273,10 @@ module _ (a : Automaton) (cells : List ℕ) (names : List (List ℕ)) where
         (rw (all-signals, all-steps 0 a.states))
 
     pub text_put : (d : List ℕ) (i j r : ℕ) (b b' b'' : List ℕ) → Counts d 0 (table_text name a.states a.initial) i b
-        → Counts b i (signal_lines acts a names) j b' → Counts b' j (step_lines a.states cells names) r b'' → (r ≡ length text) × (b'' ≡ stored d 0 text)
+        → Counts b i (signal_lines acts a names) j b' → Counts b' j (step_lines a.states cells names) r b'' → record { value : r ≡ length text; out_after : b'' ≡ stored d 0 text }
     text_put d i j r b b' b'' p q v =
-        let (e, f) = counts_then d 0 _ _ j r b' b'' (counts_then d 0 _ _ i j b b' p q) v in
-        rw text-parts (omega (arith, e), f)
+        let e = counts_then d 0 _ _ j r b' b'' (counts_then d 0 _ _ i j b b' p q) v in
+        rw text-parts (record { value = omega (arith, e.value); out_after = e.out_after })
 
     -- The text is not long: its end fits a number of 64 bits.
     pub text-room : Valid (table a cells) → Named acts names → length name ≤ 16

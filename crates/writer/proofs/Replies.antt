@@ -56,11 +56,11 @@ module _ (t : Table) (name : List ℕ) (names : List (List ℕ)) where
     abbrev Refuses : Type 0
     Refuses =
         (r : Refusal) → r ≡ refusal 23 0 Nowhere
-        → (reply.Refused r ≡ print_reply t name names (length out)) × (out ≡ print_bytes t name names out)
+        → record { value : reply.Refused r ≡ print_reply t name names (length out); out_after : out ≡ print_bytes t name names out }
 
     long : ltb (length out) (text_length t name names) || ltb 65536 (text_length t name names) ≡ true → Refuses
     unfolding print_reply print_bytes length_check first
-    long e r f = (rw (e, f), rw e)
+    long e r f = record { value = rw (e, f); out_after = rw e }
 
     pub print_beyond : 65536 < n → Refuses
     print_beyond h =
@@ -71,12 +71,12 @@ module _ (t : Table) (name : List ℕ) (names : List (List ℕ)) where
     print_long h = long (rw (lt-ltb (length out) (text_length t name names) (omega arith)))
 
     pub print_fits : n ≤ 65536 → n ≤ length out → (out' : List ℕ) → out' ≡ stored out 0 text
-        → (reply.Length n ≡ print_reply t name names (length out)) × (out' ≡ print_bytes t name names out)
+        → record { value : reply.Length n ≡ print_reply t name names (length out); out_after : out' ≡ print_bytes t name names out }
     unfolding print_reply print_bytes length_check first text_length
     print_fits h k out' put =
         let short : ltb (length out) (length text) ≡ false = le-ltb (length out) (length text) (omega arith) in
         let small : ltb 65536 (length text) ≡ false = le-ltb 65536 (length text) (omega arith) in
-        (rw (short, small, size), rw (short, small) (put ∙ stored_front out text (omega arith)))
+        record { value = rw (short, small, size); out_after = rw (short, small) (put ∙ stored_front out text (omega arith)) }
 
   -- ---- the call
 
