@@ -5,31 +5,38 @@
 
 ghost use Rattle.std.specs.Prelude.{◌≡◌, length};
 
-use libc::STDOUT_FILENO;
+use std::rt::Files;
 
-// Prints the list; if that fails, says so on standard error, since a program of this kit cannot choose its exit status.
-fn print(list: &[u8]) {
-    if !io::write_all(STDOUT_FILENO, list) {
-        os::fail(b"clashes: the list could not be written");
+// Prints the list; if that fails, says so on standard error. The exit status is 0 then too, as of every list.
+fn print(rt: &(impl Print + Eprint), list: &[u8]) {
+    if let Err(e) = rt.write_all(list) {
+        let _ = eprintln!(rt; "clashes: the list could not be written: {e}");
     }
 }
 
 // Reads both files before any text is looked at. Nothing of the list is cut off: it has 768 bytes at most.
-fn run(m: &mut [u8], p: &mut [u8], cm: &mut [u16], cp: &mut [u16], out: &mut [u8])
+fn run(
+    rt: &(impl Files + Print + Eprint),
+    m: &mut [u8],
+    p: &mut [u8],
+    cm: &mut [u16],
+    cp: &mut [u16],
+    out: &mut [u8],
+)
     requires { length out.old ≡ 1024 }
 {
-    let first = files::read(b"module.tab", m);
-    let second = files::read(b"plan.tab", p);
+    let first = files::read(rt, b"module.tab", m);
+    let second = files::read(rt, b"plan.tab", p);
     let n = report::clashes_output(first, second, m, p, cm, cp, out);
-    print(&out[0..n]);
+    print(rt, &out[0..n]);
 }
 
 // Lends as many cells as the program `sequencer` does, and room for one byte more than the longest text, so that a longer file is noticed.
-fn main() {
+fn main(rt: HostRuntime) {
     let mut m = [0u8; 65537];
     let mut p = [0u8; 65537];
     let mut cm = [65535u16; 32768];
     let mut cp = [65535u16; 32768];
     let mut out = [0u8; 1024];
-    run(&mut m, &mut p, &mut cm, &mut cp, &mut out);
+    run(&rt, &mut m, &mut p, &mut cm, &mut cp, &mut out);
 }

@@ -4,17 +4,18 @@
 
 ghost use Rattle.std.specs.Prelude.{◌≡◌, length};
 
-use libc::STDOUT_FILENO;
+use std::rt::Files;
 
-// Prints the report; if that fails, says so on standard error, since a program of this kit cannot choose its exit status.
-fn print(report: &[u8]) {
-    if !io::write_all(STDOUT_FILENO, report) {
-        os::fail(b"sequencer: the report could not be written");
+// Prints the report; if that fails, says so on standard error. The exit status is 0 then too, as of every report.
+fn print(rt: &(impl Print + Eprint), report: &[u8]) {
+    if let Err(e) = rt.write_all(report) {
+        let _ = eprintln!(rt; "sequencer: the report could not be written: {e}");
     }
 }
 
 // Reads both files before any text is looked at. Nothing of the report is cut off: it has 65,608 bytes at most.
 fn run(
+    rt: &(impl Files + Print + Eprint),
     m: &mut [u8],
     p: &mut [u8],
     cm: &mut [u16],
@@ -25,14 +26,14 @@ fn run(
 )
     requires { length out.old ≡ 66000 }
 {
-    let first = files::read(b"module.tab", m);
-    let second = files::read(b"plan.tab", p);
+    let first = files::read(rt, b"module.tab", m);
+    let second = files::read(rt, b"plan.tab", p);
     let n = report::sequencer_output(first, second, m, p, cm, cp, cells, flags, out);
-    print(&out[0..n]);
+    print(rt, &out[0..n]);
 }
 
 // Lends room for 1,024 pairs, and for one byte more than the longest text, so that a longer file is noticed.
-fn main() {
+fn main(rt: HostRuntime) {
     let mut m = [0u8; 65537];
     let mut p = [0u8; 65537];
     let mut cm = [65535u16; 32768];
@@ -41,6 +42,6 @@ fn main() {
     let mut flags = [0u8; 1024];
     let mut out = [0u8; 66000];
     run(
-        &mut m, &mut p, &mut cm, &mut cp, &mut cells, &mut flags, &mut out,
+        &rt, &mut m, &mut p, &mut cm, &mut cp, &mut cells, &mut flags, &mut out,
     );
 }
