@@ -145,7 +145,7 @@ def public_functions(faults):
 
 def check_folders(faults):
     """Looks for crates that rt would not prove, and for files beside the wrong programs that it would not try."""
-    listed = {line.split(":")[0].strip() for line in open("crates.txt", encoding="utf-8") if line.split("#")[0].strip()}
+    listed = {line.split(":")[0].split()[0] for line in open("crates.txt", encoding="utf-8") if line.split("#")[0].strip()}
     for crate in sorted(os.listdir("crates")):
         if crate not in listed:
             faults.append(f"crates/{crate}: not in crates.txt")

@@ -4,6 +4,9 @@ stands at exit in each buffer that it is lent to write to, is given by an equati
 of a buffer at exit; of a part that it returns, the bytes and the place are. And no symbol that a contract or a definition takes from the kit's
 library is given another meaning in specs/. The exit status says so. tests/contracts_test.py feeds it contracts that are wrong.
 
+In a clause `result` is what is returned; `x.old` and `x.new` are what stands in a `&mut` at entry and at exit, `x.now` is what stands behind a `&`, and
+`x.entry.ref_ptr` the place of either at entry.
+
 The one contract of another form is named below, with the words that stand for the equation: what these say has to be read."""
 import glob
 import os
@@ -17,11 +20,12 @@ TOP = os.path.join(os.path.dirname(os.path.abspath(__file__)), "..")
 
 # Which bytes a file holds, and whether it can be read, is the operating system's.
 OTHERWISE = {
-    ("files", "read"): "Reads r (now (buf .entry)) (now (buf .exit))",
+    ("files", "read"): "Reads result buf.old buf.new",
 }
 
-# A clause over the result, which is `r`; of the last one the brace of the body follows.
-CLAUSE = re.compile(r"ensures(?: \w+)? \{ λ (?:r|_)\. ⌜ (.*) ⌝ \}(?:\n\{)?", re.DOTALL)
+# A clause, named or not, of which further lines are set in; behind the last one the brace of the body follows.
+CLAUSE = re.compile(r"ensures(?: \w+)? \{ ((?:[^\n]|\n {5})*) \}(?:\n\{)?")
+RESULT = "result"
 DECLARED = re.compile(r"( *)(?:unfoldable |abbrev )*(?:pub )?(data |record )?(\S+)(?: [({].*)? :")
 OPEN, SHUT = "([{⟦", ")]}⟧"
 # What makes an equation a part of a weaker statement: a premise, a choice, a quantifier.
@@ -80,18 +84,23 @@ def parameters(signature):
     return [tuple(part.split(": ", 1)) for part in parts(listed, ",") if part]
 
 
+def is_lent(kind):
+    """Whether a parameter of this type may be written to."""
+    return re.search(r"\bmut\b", kind) is not None
+
+
 def is_free(right, references):
     """Whether the right side of an equation speaks of what was there before the call alone: not of the result, and of a reference only as it was at
-    entry."""
-    for name in references:
-        right = re.sub(rf"\((?:{name}|«{name}») \.entry\)", "()", right)
-    return not re.search(rf"(?<![\w.])(?:r|{'|'.join(references) or 'r'})(?!\w)|\.exit\b", right)
+    entry. `references` has the type of each by its name."""
+    for name, kind in references.items():
+        at_entry = "old" if is_lent(kind) else "now"
+        right = re.sub(rf"(?<![\w.])(?:{name}|«{name}»)\.(?:{at_entry}|entry\.ref_ptr)(?!\w)", "()", right)
+    return not re.search(rf"(?<![\w.])(?:{'|'.join([RESULT, *references])})(?!\w)|\.(?:new|exit)\b", right)
 
 
 def lefts_of(name):
     """The left sides that give all that stands in a buffer at exit: the buffer, or several at once. Of a lent record a field is asked for by its name."""
-    exit_of = r"now \(\w+ \.exit\)"
-    return rf"(?:\((?:{exit_of}, )*now \({name} \.exit\)(?:, {exit_of})*\)|now \({name} \.exit\)( \.\w+)?)"
+    return rf"(?:\((?:\w+\.new, )*{name}\.new(?:, \w+\.new)*\)|{name}\.new(\.\w+)?)"
 
 
 def faults_of(head, otherwise=None, fields=lambda kind: None):
@@ -100,21 +109,22 @@ def faults_of(head, otherwise=None, fields=lambda kind: None):
     takes = parameters(signature)
     if re.search(r"\n    requires\b", head):
         yield "asks something of its caller"
-    if any(name == "r" for name, _ in takes):
+    is_hidden = any(name == RESULT for name, _ in takes)
+    if is_hidden:
         yield "has a parameter that is called like the result"
     if otherwise and any(said.startswith(otherwise) for said in statements(head)):
         return
-    references = [name for name, kind in takes if "&" in kind]
-    given = [(left, right) for left, right in equations(head) if is_free(right, references)]
-    wanted = ["r"] if "->" in signature else []
+    references = {name: kind for name, kind in takes if "&" in kind}
+    given = [(left, right) for left, right in equations(head) if is_free(right, references) and not is_hidden]
+    wanted = [RESULT] if "->" in signature else []
     if re.search(r"-> &", signature):
-        wanted = ["now r", "ptr r"]
+        wanted = [f"{RESULT}.now", f"{RESULT}.ref_ptr"]
     for left in wanted:
         if not any(side == left for side, _ in given):
             yield f"does not say by an equation what {left} is"
-    for lent, kind in [(name, kind) for name, kind in takes if re.search(r"\bmut\b", kind)]:
+    for lent, kind in [(name, kind) for name, kind in takes if is_lent(kind)]:
         whole = [re.fullmatch(lefts_of(lent), side) for side, _ in given]
-        field = [f" .{name}" for name in fields(kind.split()[-1]) or []]
+        field = [f".{name}" for name in fields(kind.split()[-1]) or []]
         if not any(said and (said[1] is None or field == [said[1]]) for said in whole):
             yield f"does not say by an equation what stands in {lent} at exit"
 
@@ -145,23 +155,25 @@ def declared_in(text):
             record = indent
 
 
-def taken(text):
-    """What a file takes from elsewhere: whether from the kit's library, the name there, and the name here."""
-    for path, names in re.findall(r"(?m)^(?:ghost )?use ([\w.·-]+)\.\{([^}]*)\}", text):
-        for name in names.split(","):
-            there, _, here = name.strip().partition(" as ")
-            yield not path.startswith("Rattle·"), there, here or there
+def taken(text, crates):
+    """What a file takes from elsewhere: whether from the kit's library, which is all but the crates named, the name there, and the name here."""
+    for path, names in re.findall(r"(?m)^(?:ghost )?use ([\w.-]+)\.\{([^}]*)\}", text):
+        of_kit = not any(path.startswith(f"Rattle.{crate}.") for crate in crates)
+        for name in filter(None, map(str.strip, names.split(","))):
+            there, _, here = name.partition(" as ")
+            yield of_kit, there, here or there
 
 
 def second_meanings(files):
     """What gives a symbol that is taken from the kit another meaning: a definition in specs/, or another thing taken under its name; and an operator of
-    specs/, with which the words right of `≡` could be more than a side of the equation. `files` has the text of each by its path."""
-    kit = {there for text in files.values() for of_kit, there, _ in taken(text) if of_kit}
+    specs/, with which the words right of `≡` could be more than a side of the equation. `files` has the text of each by its path, crates/CRATE/.. ."""
+    crates = {path.split("/")[1] for path in files}
+    kit = {there for text in files.values() for of_kit, there, _ in taken(text, crates) if of_kit}
     for path, text in sorted(files.items()):
         names = list(declared_in(text)) if "/specs/" in path else []
-        names += [here for _, there, here in taken(text) if here != there]
+        names += [here for _, there, here in taken(text, crates) if here != there]
         yield from (f"{path}: gives {name} a meaning of its own" for name in names if name in kit)
-        yield from (f"{path}: declares the operator {name}" for name in names if name.startswith("_"))
+        yield from (f"{path}: declares the operator {name}" for name in names if "◌" in name)
 
 
 def main():

@@ -6,13 +6,13 @@ import sys
 from contracts import faults_of, fields_of, second_meanings
 from verdict import tell
 
-RESULT = "does not say by an equation what r is"
-BYTES = "does not say by an equation what now r is"
-PLACE = "does not say by an equation what ptr r is"
+RESULT = "does not say by an equation what result is"
+BYTES = "does not say by an equation what result.now is"
+PLACE = "does not say by an equation what result.ref_ptr is"
 FLAGS = "does not say by an equation what stands in flags at exit"
 RECORD = "does not say by an equation what stands in follower at exit"
 ASKS = "asks something of its caller"
-CALLED_R = "has a parameter that is called like the result"
+CALLED_RESULT = "has a parameter that is called like the result"
 
 NUMBER = "pub fn f(a: usize) -> usize"
 FILL = "pub fn f(flags: &mut [u8])"
@@ -25,68 +25,75 @@ NAMES = "pub fn f<'a>(flags: &'a mut [&'a [u8]])"
 
 # Each has a signature, its clauses, and the faults that are to be found.
 CONTRACTS = [
-    (NUMBER, ["ensures { λ r. ⌜ r ≡ a + 1 ⌝ }"], []),
-    (NUMBER, ["ensures { λ r. ⌜ (r ≡ a + 1) × (r ≤ 9) ⌝ }"], []),
-    (NUMBER, ["ensures named { λ r. ⌜ r ≡ any 32 (λ (x : ℕ). has a x) ⌝ }"], []),
+    (NUMBER, ["ensures { result ≡ a + 1 }"], []),
+    (NUMBER, ["ensures { (result ≡ a + 1) × (result ≤ 9) }"], []),
+    (NUMBER, ["ensures named { result ≡ any 32 (λ (x : ℕ). has a x) }"], []),
     (NUMBER, [], [RESULT]),
-    (NUMBER, ["requires { ⌜ a < 9 ⌝ }", "ensures { λ r. ⌜ r ≡ a + 1 ⌝ }"], [ASKS]),
-    (NUMBER, ["ensures { λ r. ⌜ r ≡ r ⌝ }"], [RESULT]),
-    (NUMBER, ["ensures { λ r. ⌜ r ≡ (λ x. x) r ⌝ }"], [RESULT]),
-    (NUMBER, ["ensures { λ r. ⌜ r ≡ «r» ⌝ }"], [RESULT]),
-    (NUMBER, ["ensures { λ r. ⌜ r ≡ min a r ⌝ }"], [RESULT]),
-    (NUMBER, ["ensures { λ r. ⌜ r ≤ a ⌝ }"], [RESULT]),
-    (NUMBER, ["ensures { λ r. ⌜ a < 9 → r ≡ a + 1 ⌝ }"], [RESULT]),
-    (NUMBER, ["ensures { λ r. ⌜ (r ≡ a) ⊎ (r ≡ 0) ⌝ }"], [RESULT]),
-    (NUMBER, ["ensures { λ r. ⌜ r ≡ a ⊎ Unit ⌝ }"], [RESULT]),
-    (NUMBER, ["ensures { λ r. ⌜ Σ (x : ℕ) × (r ≡ x) ⌝ }"], [RESULT]),
-    (NUMBER, ["ensures { λ r. ⌜ (x : ℕ) → (r ≡ x) × (x ≤ a) ⌝ }"], [RESULT]),
-    (NUMBER, ["ensures { λ r. ⌜ r .0 ≡ a ⌝ }"], [RESULT]),
-    (NUMBER, ["ensures { λ x. ⌜ r ≡ x ⌝ }"], [RESULT]),
-    ("pub fn f(r: bool) -> usize", ["ensures { λ x. ⌜ r ≡ ltb 5 x ⌝ }"], [CALLED_R, RESULT]),
-    (FILL, ["ensures { λ _. ⌜ now (flags .exit) ≡ filled (now (flags .entry)) ⌝ }"], []),
-    (FILL, ["ensures { λ _. ⌜ now (flags .exit) ≡ now (flags .exit) ⌝ }"], [FLAGS]),
-    (FILL, ["ensures { λ _. ⌜ now (flags .exit) ≡ take (length (now (flags .entry))) (now (flags .exit)) ⌝ }"], [FLAGS]),
-    (FILL, ["ensures { λ _. ⌜ length (now (flags .exit)) ≡ length (now (flags .entry)) ⌝ }"], [FLAGS]),
-    (FILL, ["ensures { λ _. ⌜ now (flags .exit) ≡ atEnd flags ⌝ }"], [FLAGS]),
-    (FILL, ["ensures { λ x. ⌜ now (flags .exit) ≡ f x ⌝ }"], [FLAGS]),
-    (ARRAY, ["ensures { λ _. ⌜ Unit {0} ⌝ }"], [FLAGS]),
-    (ARRAY, ["ensures { λ _. ⌜ now (flags .exit) ≡ replicate 4 0 ⌝ }"], []),
-    (NAMES, ["ensures { λ _. ⌜ Unit {0} ⌝ }"], [FLAGS]),
-    (BOTH, ["ensures { λ _. ⌜ (now (cells .exit), now (flags .exit)) ≡ rooms (now (cells .entry)) ⌝ }"], []),
-    (BOTH, ["ensures { λ _. ⌜ now (cells .exit) ≡ rooms (now (cells .entry)) ⌝ }"], [FLAGS]),
-    (BOTH, ["ensures { λ _. ⌜ now (cells .exit) ≡ g ⌝ }", "ensures { λ _. ⌜ now (flags .exit) ≡ h (now (cells .exit)) ⌝ }"], [FLAGS]),
-    (PART, ["ensures { λ r. ⌜ now r ≡ drop at (now (s .entry)) ⌝ }", "ensures { λ r. ⌜ ptr r ≡ forward (ptr (s .entry)) at ⌝ }"], []),
-    (PART, ["ensures { λ r. ⌜ now r ≡ drop at (now (s .entry)) ⌝ }"], [PLACE]),
-    (PART, ["ensures { λ r. ⌜ now r ≡ drop at (now (s .entry)) ⌝ }", "ensures { λ r. ⌜ ptr r ≡ ptr r ⌝ }"], [PLACE]),
-    (PART, ["ensures { λ r. ⌜ now r ≡ drop at (now (s .entry)) ⌝ }", "ensures { λ r. ⌜ ptr r .0 ≡ ptr (s .entry) .0 ⌝ }"], [PLACE]),
-    (PART, ["ensures { λ r. ⌜ ptr r ≡ ptr (s .entry) ⌝ }"], [BYTES]),
-    (LENT, ["ensures { λ _. ⌜ now (follower .exit) .state ≡ 0 ⌝ }"], []),
-    (LENT, ["ensures { λ _. ⌜ now (follower .exit) .other ≡ 0 ⌝ }"], [RECORD]),
-    (WIDER, ["ensures { λ _. ⌜ now (follower .exit) .state ≡ 0 ⌝ }"], [RECORD]),
+    (NUMBER, ["requires { a < 9 }", "ensures { result ≡ a + 1 }"], [ASKS]),
+    (NUMBER, ["ensures { result ≡ result }"], [RESULT]),
+    (NUMBER, ["ensures { result ≡ (λ x. x) result }"], [RESULT]),
+    (NUMBER, ["ensures { result ≡ «result» }"], [RESULT]),
+    (NUMBER, ["ensures { result ≡ min a result }"], [RESULT]),
+    (NUMBER, ["ensures { result ≤ a }"], [RESULT]),
+    (NUMBER, ["ensures { a < 9 → result ≡ a + 1 }"], [RESULT]),
+    (NUMBER, ["ensures { (result ≡ a) ⊎ (result ≡ 0) }"], [RESULT]),
+    (NUMBER, ["ensures { result ≡ a ⊎ Unit }"], [RESULT]),
+    (NUMBER, ["ensures { Σ (x : ℕ) × (result ≡ x) }"], [RESULT]),
+    (NUMBER, ["ensures { (x : ℕ) → (result ≡ x) × (x ≤ a) }"], [RESULT]),
+    (NUMBER, ["ensures { result.0 ≡ a }"], [RESULT]),
+    (NUMBER, ["ensures { λ x. result ≡ x }"], [RESULT]),
+    ("pub fn f(result: bool) -> usize", ["ensures { result ≡ ltb 5 a }"], [CALLED_RESULT, RESULT]),
+    (FILL, ["ensures { flags.new ≡ filled flags.old }"], []),
+    (FILL, ["ensures { flags.new ≡ flags.new }"], [FLAGS]),
+    (FILL, ["ensures { flags.new ≡ take (length flags.old) flags.new }"], [FLAGS]),
+    (FILL, ["ensures { length flags.new ≡ length flags.old }"], [FLAGS]),
+    (FILL, ["ensures { flags.new ≡ at_end flags }"], [FLAGS]),
+    (FILL, ["ensures { flags.new ≡ f result }"], [FLAGS]),
+    (FILL, ["ensures { flags.new ≡ filled flags.now }"], [FLAGS]),
+    (FILL, ["ensures { flags.new ≡ filled flags.exit.now }"], [FLAGS]),
+    (FILL, ["ensures* { flags.new ≡ filled flags.old }"], [FLAGS]),
+    (FILL, ["ensures { flags.new ≡ filled flags.old }\n    ghost rest { rest }"], [FLAGS]),
+    (FILL, ["requires* named { length flags.old ≡ 4 }", "ensures { flags.new ≡ filled flags.old }"], [ASKS]),
+    (ARRAY, ["ensures { Unit {0} }"], [FLAGS]),
+    (ARRAY, ["ensures { flags.new ≡ replicate 4 0 }"], []),
+    (NAMES, ["ensures { Unit {0} }"], [FLAGS]),
+    (BOTH, ["ensures { (cells.new, flags.new) ≡ rooms cells.old }"], []),
+    (BOTH, ["ensures { cells.new ≡ rooms cells.old }"], [FLAGS]),
+    (BOTH, ["ensures { cells.new ≡ g }", "ensures { flags.new ≡ h cells.new }"], [FLAGS]),
+    (PART, ["ensures { result.now ≡ drop at s.now }", "ensures { result.ref_ptr ≡ forward s.entry.ref_ptr at }"], []),
+    (PART, ["ensures { result.now ≡ drop at s.now }"], [PLACE]),
+    (PART, ["ensures { result.now ≡ drop at s.now }", "ensures { result.ref_ptr ≡ result.ref_ptr }"], [PLACE]),
+    (PART, ["ensures { result.now ≡ drop at s.now }", "ensures { result.ref_ptr.0 ≡ s.entry.ref_ptr.0 }"], [PLACE]),
+    (PART, ["ensures { result.ref_ptr ≡ s.entry.ref_ptr }"], [BYTES]),
+    (PART, ["ensures { result.now ≡ drop at s.now }", "ensures { result.ref_ptr ≡ forward s at }"], [PLACE]),
+    (PART, ["ensures { result ≡ result_of s.now }"], [BYTES, PLACE]),
+    (LENT, ["ensures { follower.new.state ≡ 0 }"], []),
+    (LENT, ["ensures { follower.new.other ≡ 0 }"], [RECORD]),
+    (WIDER, ["ensures { follower.new.state ≡ 0 }"], [RECORD]),
 ]
 
 # A contract of another form, by the words that stand for the equation: they have to be all of a statement, or its beginning.
-WORDS = "Reads r (now (buf .entry))"
+WORDS = "Reads result buf.old"
 OTHERWISE = [
-    ("Reads r (now (buf .entry)) r", []),
-    ("Reads r (now (buf .entry)) r → Unit {0}", [RESULT]),
-    ("length (Reads r (now (buf .entry)) r) ≡ 0", [RESULT]),
+    ("Reads result buf.old buf.new", []),
+    ("Reads result buf.old buf.new → Unit {0}", [RESULT]),
+    ("length (Reads result buf.old buf.new) ≡ 0", [RESULT]),
 ]
 
 # The records that the contracts above lend.
 RECORDS = "pub struct Follower {\n    pub state: usize,\n}\n\npub struct Wider {\n    pub state: usize,\n    held: usize,\n}\n"
 
 # A file of definitions, and whether it gives a symbol of the kit's library another meaning, or words right of an equation one.
-KIT = "use lib.ListN.{length, set}\nghost use mathlib.Core.Path.{_≡_}\n"
+KIT = "use Rattle.std.specs.Prelude.{length, set}\nghost use mathlib.Core.Path.{◌≡◌}\n"
 DEFINITIONS = [
     ("abbrev pub set : List ℕ → ℕ\nset l = 0\n", True),
     ("module _ (n : ℕ) where\n  unfoldable pub length : ℕ\n  length = n\n", True),
     ("pub record Named : Type 0 where\n  pub set : ℕ\n", False),
-    ("abbrev pub actionSet : List ℕ → ℕ\nactionSet l = 0\n", False),
-    ("use Rattle·a.specs.A.{loose as _≡_}\n", True),
+    ("abbrev pub action_set : List ℕ → ℕ\naction_set l = 0\n", False),
+    ("use Rattle.a.specs.A.{loose as ◌≡◌}\n", True),
     ("use lib.Dec.{ltb as length}\n", True),
-    ("use Rattle·a.specs.A.{table as tableOf}\n", False),
-    ("infixr 2 _given_\nabbrev pub _given_ : Type 0 → Type 0 → Type 0\nA given B = B → A\n", True),
+    ("use Rattle.a.specs.A.{table as table_of}\n", False),
+    ("infixr 2 ◌given◌\nabbrev pub ◌given◌ : Type 0 → Type 0 → Type 0\nA given B = B → A\n", True),
 ]
 
 
@@ -102,7 +109,7 @@ def main():
         if found != wanted:
             faults.append(f"{signature} {clauses}: found {found}, wanted {wanted}")
     for said, wanted in OTHERWISE:
-        found, tried = found_in(NUMBER, [f"ensures {{ λ r. ⌜ {said} ⌝ }}"], WORDS), tried + 1
+        found, tried = found_in(NUMBER, [f"ensures {{ {said} }}"], WORDS), tried + 1
         if found != wanted:
             faults.append(f"{said}: found {found}, wanted {wanted}")
     for text, wanted in DEFINITIONS:

@@ -4,6 +4,9 @@ import os
 import re
 from typing import NamedTuple
 
+# What a root hands on of a module: one name, or several in braces.
+HANDED_ON = re.compile(r"(?m)^pub use \w+::(?:(\w+)|\{([\w\s,]*)\});\n")
+
 
 class Function(NamedTuple):
     """`head` has its parameters and contract; the body stands from `start` to `end` in the file."""
@@ -67,11 +70,13 @@ def public(crate, faults):
     if not os.path.exists(root):
         return set()
     found = {function.name for text, function in of_crate(crate) if function.head.startswith('pub extern "C"')}
-    for line in open(root, encoding="utf-8"):
+    text = open(root, encoding="utf-8").read()
+    for one, several in HANDED_ON.findall(text):
+        found.update(re.findall(r"\w+", one or several))
+    for line in HANDED_ON.sub("", text).split("\n"):
         own = re.match(r"pub (?:extern \"C\" )?fn (\w+)", line)
-        handed_on = re.fullmatch(r"pub use \w+::(\w+);\n", line)
-        if own or handed_on:
-            found.add((own or handed_on)[1])
+        if own:
+            found.add(own[1])
         elif re.match(r"impl\b|pub (?!struct |enum |const [A-Z]|[a-z]+: )", line):
             faults.append(f"{root}: not understood: {line.strip()}")
     for name in found - {function.name for _, function in of_crate(crate)}:

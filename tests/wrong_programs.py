@@ -14,8 +14,8 @@ and functions whose contracts fail. The function whose body it changes is not na
 changes no single function, the line has to be there. A name is one of the crate; `proofs/Entries: declaring-clash` says in which file, `text: listed` in
 which other crate; `;` parts such groups, and after a dash come words of why, with names in backticks. tests/claims.py holds the two lines to the tree.
 
-A wrong program may bring its proof along, where its code has another shape than the right one: lines of the proof of the one function whose body it
-changes. Then all that can be proved of it is, and what fails is the fact that it breaks; that the lines are as good as they can be is for the reader
+A wrong program may bring its proof along, where its code has another shape than the right one: lines of the proof files of the one function whose body
+it changes. Then all that can be proved of it is, and what fails is the fact that it breaks; that the lines are as good as they can be is for the reader
 to judge. One that changes a proof alone, or nothing but blanks beside it, is none."""
 import glob
 import os
@@ -26,6 +26,8 @@ import functions
 
 # The kinds of lines, by a letter each; and their order in a file.
 LETTERS = {"wrong": "W", "shows": "S", "fails": "X", "file": "F", "old": "O", "new": "N"}
+# The files of a function's proof: what holds in its loops, and the answers to its goals; or a walk by hand.
+PROOF_FILES = ("Invariants", "Answers", "Proof")
 ONE = "SX?(?:F(?:ON)+)+"
 ORDER = re.compile(f"{ONE}|(?:W{ONE})+")
 # A sentence does not begin with a capital, so that a number of a requirement that is misspelt is not taken for a part of it.
@@ -55,10 +57,10 @@ class Trial(NamedTuple):
 
 def is_well_formed(changes):
     """Whether a wrong program changes something, and of proofs only that of the one function whose body it changes."""
-    code = [(file, function) for file, function, old, new in changes if not file.startswith("proofs/") and old.split() != new.split()]
+    code = {function for file, function, old, new in changes if not file.startswith("proofs/") and old.split() != new.split()}
     proofs = {file for file, *_ in changes if file.startswith("proofs/")}
-    own = {f"proofs/{function.replace('::', '/')}/Proof.antt" for _, function in code if function}
-    return bool(code) and (not proofs or (proofs == own and all(function for _, function in code)))
+    own = {f"proofs/{function.replace('::', '/')}/{name}.antt" for function in code if function for name in PROOF_FILES}
+    return bool(code) and (not proofs or (len(code) == 1 and proofs <= own))
 
 
 def changed_by(changes):

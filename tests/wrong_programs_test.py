@@ -14,24 +14,29 @@ BODY = ("src/lib.rt", "name", "found.from", "found.length")
 MODULE = ("src/texts.rt", "texts::read", "65536", "65535")
 BLANK = ("src/lib.rt", "name", "a, b", "a,  b")
 SPECS = ("specs/Cells.antt", None, "ample = 131072", "ample = 131040")
-PROOF = ("proofs/name/Proof.antt", None, "returns c = search needs", "returns c = search (law, needs)")
-MODULE_PROOF = ("proofs/texts/read/Proof.antt", None, "returns c = search needs", "returns c = search (law, needs)")
+PROOF = ("proofs/name/Answers.antt", None, "returns c = search rules", "returns c = search (law, rules)")
+INVARIANT = ("proofs/name/Invariants.antt", None, "at_most : x ≤ 32", "at_most : x ≤ 31")
+MODULE_PROOF = ("proofs/texts/read/Answers.antt", None, "returns c = search rules", "returns c = search (law, rules)")
 LAW = ("proofs/Parts.antt", None, "part-name", "part-place")
 
 # The changes of a wrong program, whether it counts as one, and the function that it is held to.
 EDITS = [
     ([BODY], True, "name"),
     ([BODY, PROOF], True, "name"),
+    ([BODY, INVARIANT, PROOF], True, "name"),
     ([MODULE, MODULE_PROOF], True, "texts::read"),
     ([SPECS], True, None),
     ([BODY, MODULE], True, None),
     ([PROOF], False, None),
     ([BLANK], False, "name"),
     ([BLANK, PROOF], False, "name"),
+    ([INVARIANT, PROOF], False, None),
+    ([BODY, INVARIANT, MODULE_PROOF], False, "name"),
     ([BODY, MODULE_PROOF], False, "name"),
     ([BODY, PROOF, LAW], False, "name"),
     ([SPECS, PROOF], False, None),
     ([BODY, MODULE, PROOF], False, None),
+    ([BODY, MODULE, PROOF, MODULE_PROOF], False, None),
 ]
 
 # The lines of a file of the crate sets, and whether they say wrong programs.
@@ -65,16 +70,16 @@ SAID = [
     ("reach", "search", ["S-4.5"], "mark_reached", True),
     ("reach", "search", [], "mark_reached – as `mark_64` is called", True),
     ("table", None, [], "src/faults: limit; find", True),
-    ("writer", "rows::step_lines", [], "write; text: example-orders", True),
+    ("writer", "rows::step_lines", [], "write; text: example_orders", True),
     ("reach", "search", ["S-4.99"], "mark_reached", False),
     ("reach", "search", [], "mark_searched", False),
     ("reach", "search", [], "clear", False),
-    ("reach", "search", [], "mark_reached; specs/Ends: endsIn", False),
+    ("reach", "search", [], "mark_reached; specs/Ends: ends_in", False),
     ("reach", "search", [], "search", False),
     ("reach", "search", [], "mark_reached – as `search_65` is called", False),
     ("reach", "search", [], "src/library: mark_reached", False),
     ("table", None, [], "limit", False),
-    ("writer", "rows::step_lines", [], "write; texts: example-orders", False),
+    ("writer", "rows::step_lines", [], "write; texts: example_orders", False),
 ]
 
 # A line of a document, and whether what it cites is there.
