@@ -1,74 +1,96 @@
 #!/usr/bin/env python3
-"""Proves crates with `rt check`, and says on standard error what is being proved.
+"""Proves crates with `rt`, and says on standard error what is being proved.
 
     prove.py [NAME ..]    the crates named and those that they need; without a name, all of crates.txt
 
+Each is proved in its own folder, those that it needs before it: by `rt lib` if others need it, by `rt run` if it is a program, else by `rt check`. `rt run`
+builds the program and runs it there, where there is nothing to read; the program is then copied to target/bin/NAME. What the prover said of a crate when
+it was last proved is in target/log/NAME.say, and target/stamp/NAME has a hash of all that the proof stands on.
+
 A line has the seconds so far and which crate of how many it is. A crate that has not changed since its proof is counted and gets no line: where
 nothing has changed, nothing is said. If a proof fails, what the prover said of that crate is shown. The exit status is rt's."""
+import hashlib
 import os
-import re
+import shutil
 import signal
 import subprocess
 import sys
-import tempfile
 import time
 
 TOP = os.path.join(os.path.dirname(os.path.abspath(__file__)), "..")
-ENDED = re.compile(r"rt: (\w+) proved \(")
 
 
-def needed(names):
-    """The crates named and those that they need, out of crates.txt; kit libraries are not listed there."""
+def listed():
+    """The crates of crates.txt, each with those that it needs; kit libraries are not listed there. A word behind a name says what is built of it."""
     with open("crates.txt", encoding="utf-8") as file:
         lines = [line.partition("#")[0].partition(":") for line in file]
-    listed = {name.strip(): needs.split() for name, colon, needs in lines if colon}
-    found = list(dict.fromkeys(names or listed))
-    for name in found:
-        found.extend(need for need in listed.get(name, []) if need in listed and need not in found)
+    return {name.split()[0]: needs.split() for name, colon, needs in lines if colon}
+
+
+def in_order(names, crates, found=()):
+    """The crates named and those that they need, each behind those that it needs; before them those that are found already."""
+    found = list(found)
+    for name in names:
+        if name in crates and name not in found:
+            found = [*in_order(crates[name], crates, found), name]
     return found
 
 
-def changed_at(crate):
-    """When the prover's words on a crate were last written, None where there are none. rt empties the file when it begins to prove the crate."""
+def program_of(crate):
+    """Where the program of the crate is put; None where it is a library."""
+    return f"target/bin/{crate}" if os.path.exists(f"crates/{crate}/src/main.rt") else None
+
+
+def verb_for(crate, crates):
+    """rt's word for proving the crate, and for building what the crates above it, or the people who run it, need."""
+    if program_of(crate):
+        return "run"
+    return "lib" if any(crate in needs for needs in crates.values()) else "check"
+
+
+def sum_of_file(path):
+    """A hash of the file; none where there is no such file."""
     try:
-        return os.stat(os.path.join("target", "log", f"{crate}.say")).st_mtime_ns
+        with open(path, "rb") as file:
+            return hashlib.sha256(file.read()).hexdigest()
     except FileNotFoundError:
-        return None
+        return "none"
 
 
-class Progress:
-    """Follows a run of rt by the file `log`, which has all that it prints, and by the file of each crate that it writes as it proves the crate."""
+class Stamps:
+    """What a proof of each crate stands on, by a hash: the kit, the crate's files, and all that it needs."""
 
-    def __init__(self, crates, log):
-        self.crates, self.log = crates, log
-        self.before = {crate: changed_at(crate) for crate in crates}
-        self.begun, self.start = set(), time.monotonic()
+    def __init__(self, crates):
+        self.crates, self.made = crates, {}
+        self.kit = subprocess.run(["rt", "version"], stdin=subprocess.DEVNULL, capture_output=True, text=True, check=True).stdout
 
-    def say(self, words):
-        print(f"{time.monotonic() - self.start:5.0f} s  {words}", file=sys.stderr, flush=True)
+    def of(self, crate):
+        if crate not in self.made:
+            needs = self.crates.get(crate, [])
+            parts = [self.kit, crate, needs, *(self.of(need) for need in needs if need in self.crates)]
+            for part in ("src", "specs", "proofs"):
+                for folder, folders, names in os.walk(f"crates/{crate}/{part}"):
+                    folders.sort()
+                    parts += [(f"{folder}/{name}", sum_of_file(f"{folder}/{name}")) for name in sorted(names)]
+            self.made[crate] = hashlib.sha256(repr(parts).encode()).hexdigest()
+        return self.made[crate]
 
-    def printed(self):
-        with open(self.log, encoding="utf-8", errors="replace") as file:
-            return file.read()
+    def text(self, crate):
+        """What the stamp has to be: behind the hash stands that of the program, where the crate is one."""
+        program = program_of(crate)
+        return f"{self.of(crate)}\n" + (f"{sum_of_file(program)}\n" if program else "")
 
-    def look(self):
-        """Says which crates rt has begun to prove since the last look."""
-        ended = ENDED.findall(self.printed())
-        new = [crate for crate in self.crates if crate not in self.begun and changed_at(crate) not in (None, self.before[crate])]
-        for crate in sorted(new, key=changed_at):
-            self.begun.add(crate)
-            earlier = ended[: ended.index(crate)] if crate in ended else ended
-            self.say(f"proving {len(self.begun.union(earlier))} of {len(self.crates)}: {crate}")
+    def is_proved(self, crate):
+        """Whether nothing has changed since the crate was proved."""
+        try:
+            with open(f"target/stamp/{crate}", encoding="utf-8") as file:
+                return file.read() == self.text(crate)
+        except FileNotFoundError:
+            return False
 
-    def failure(self):
-        """What rt printed, without what it says of crates that are proved."""
-        kept, block = [], []
-        for line in self.printed().splitlines(keepends=True):
-            block.append(line)
-            if line.startswith("rt: "):
-                kept.extend([] if ENDED.match(line) else block)
-                block = []
-        return "".join(kept + block)
+    def note(self, crate):
+        with open(f"target/stamp/{crate}", "w", encoding="utf-8") as file:
+            file.write(self.text(crate))
 
 
 def stop(process):
@@ -84,24 +106,52 @@ def interrupted(number, frame):
     raise KeyboardInterrupt
 
 
-def run(names, log):
-    """Runs rt and gives its exit status."""
-    progress = Progress(needed(names), log)
-    with open(log, "wb") as file:
-        process = subprocess.Popen(["rt", "check", *names], stdin=subprocess.DEVNULL, stdout=file, stderr=file, start_new_session=True)
-    try:
-        while process.poll() is None:
-            progress.look()
-            time.sleep(0.1)
-        progress.look()
-    except BaseException:
-        stop(process)
-        raise
-    if process.returncode != 0:
-        sys.stderr.write(progress.failure())
-    elif progress.begun:
-        progress.say(f"{len(progress.crates)} of {len(progress.crates)} proved")
-    return process.returncode
+def prove(crate, verb):
+    """Proves the crate, and gives rt's exit status."""
+    with open(f"target/log/{crate}.say", "wb") as file:
+        how = {"stdin": subprocess.DEVNULL, "stdout": file, "stderr": file, "start_new_session": True}
+        process = subprocess.Popen(["rt", verb], cwd=f"crates/{crate}", **how)
+        try:
+            status = process.wait()
+        except BaseException:
+            stop(process)
+            raise
+    if status == 0 and program_of(crate):
+        shutil.copy(f"crates/{crate}/out/{crate}", program_of(crate))
+    return status
+
+
+def run(names):
+    """Proves the crates, and gives the exit status of rt where it failed, else 0."""
+    start, crates = time.monotonic(), listed()
+    for name in names:
+        if name not in crates:
+            print(f"crates.txt does not list {name}", file=sys.stderr)
+            return 2
+    wanted, stamps, has_begun = in_order(names or crates, crates), Stamps(crates), False
+
+    def say(words):
+        print(f"{time.monotonic() - start:5.0f} s  {words}", file=sys.stderr, flush=True)
+
+    for folder in ("bin", "log", "stamp"):
+        os.makedirs(f"target/{folder}", exist_ok=True)
+    for number, crate in enumerate(wanted, 1):
+        if stamps.is_proved(crate):
+            continue
+        say(f"proving {number} of {len(wanted)}: {crate}")
+        has_begun, before = True, stamps.of(crate)
+        status = prove(crate, verb_for(crate, crates))
+        if status != 0:
+            with open(f"target/log/{crate}.say", encoding="utf-8", errors="replace") as file:
+                sys.stderr.write(file.read())
+            say(f"{crate} is not proved")
+            return status
+        # What was changed during the proof is proved the next time.
+        if Stamps(crates).of(crate) == before:
+            stamps.note(crate)
+    if has_begun:
+        say(f"{len(wanted)} of {len(wanted)} proved")
+    return 0
 
 
 def main():
@@ -109,8 +159,7 @@ def main():
     for number in (signal.SIGTERM, signal.SIGHUP):
         signal.signal(number, interrupted)
     try:
-        with tempfile.TemporaryDirectory() as folder:
-            return run(sys.argv[1:], os.path.join(folder, "log"))
+        return run(sys.argv[1:])
     except KeyboardInterrupt:
         print("stopped; what is proved by now will not be proved again", file=sys.stderr)
         return 130
