@@ -1,0 +1,9 @@
+use Rattle.reader.proofs.Rows.{visit_start, visit_done}
+use borrow.Author.Rules.{rules}
+use Rattle.reader.proofs.clashes.list.Goals as goal
+
+pub loop-i-init : goal.loop-i-init
+loop-i-init c = search (visit_start, rules)
+
+pub returns : goal.returns
+returns c = search (visit_done, rules)
