@@ -17,11 +17,16 @@ use Rattle.report.specs.Programs.{by_files, files_read, program_text, program_bu
 
 -- The text is put into the buffer, which ends within a bound, and the other buffers are left as they should be.
 abbrev Leaves : {A : Type 0} → ℕ → List ℕ → ℕ → List ℕ → List ℕ → A → A → Type 0
-Leaves bound out e out' text left right = (e ≡ after (length out) 0 text) × ((out' ≡ stored out 0 text) × ((left ≡ right) × (e ≤ bound)))
+Leaves bound out e out' text left right =
+    record { value : e ≡ after (length out) 0 text; out_after : out' ≡ stored out 0 text; buffers_after : left ≡ right; upper_bound : e ≤ bound }
 
 -- The line of 24, which is short.
 abbrev Line : ℕ → List ℕ → ℕ → List ℕ → Type 0
-Line file out e out' = (e ≡ after (length out) 0 (refusal_text file 24 0)) × ((out' ≡ stored out 0 (refusal_text file 24 0)) × (e ≤ 26))
+Line file out e out' = record {
+  value : e ≡ after (length out) 0 (refusal_text file 24 0);
+  out_after : out' ≡ stored out 0 (refusal_text file 24 0);
+  upper_bound : e ≤ 26;
+}
 
 -- ---- the results of reading two files, put together
 
@@ -72,16 +77,26 @@ module _ {A : Type 0} (bound : ℕ) (long : 26 ≤ bound) (first second : File) 
   Runs now = Leaves bound out e out' (by_files first second refused texts) now (by_files first second untouched results)
 
   refuses : (r.unreadable ≡ 0 → ⊥) → Line r.unreadable out e out' → Runs kept
-  refuses n (u, (v, h)) =
+  refuses n p =
       let line = of_unreadable first second refused texts r joined n in
-      (u ∙ ap (after (length out) 0) line, (v ∙ ap (stored out 0) line, (of_unreadable first second untouched results r joined n, omega arith)))
+      record {
+        value = p.value ∙ ap (after (length out) 0) line;
+        out_after = p.out_after ∙ ap (stored out 0) line;
+        buffers_after = of_unreadable first second untouched results r joined n;
+        upper_bound = omega (arith, p.upper_bound);
+      }
 
   runs : r.unreadable ≡ 0 → (m' p' : List ℕ) → m' ≡ take r.first m → p' ≡ take r.second p → (now : A)
       → Leaves bound out e out' (text m' p') now (left m' p') → Runs now
-  runs z m' p' em ep now (u, (v, (w, h))) =
+  runs z m' p' em ep now q =
       let printed : text m' p' ≡ by_files first second refused texts = rw (em, ep) (of_both first second refused texts r joined z) in
       let result : left m' p' ≡ by_files first second untouched results = rw (em, ep) (of_both first second untouched results r joined z) in
-      (u ∙ ap (after (length out) 0) printed, (v ∙ ap (stored out 0) printed, (w ∙ result, h)))
+      record {
+        value = q.value ∙ ap (after (length out) 0) printed;
+        out_after = q.out_after ∙ ap (stored out 0) printed;
+        buffers_after = q.buffers_after ∙ result;
+        upper_bound = q.upper_bound;
+      }
 
 -- The program `sequencer`.
 module _ (first second : File) (m p cm cp cells flags out : List ℕ) (e : ℕ) (out' : List ℕ) (r : FilesRead) (joined : r ≡ files_read first second) where
@@ -120,8 +135,14 @@ module _ (first second : File) (m p cm cp out : List ℕ) (e : ℕ) (out' : List
   list_unread = refuses 768 (omega arith) first second m p listing_of cells_read _ out e out' r joined
 
   pub list_both_read : r.unreadable ≡ 0 → (m' p' : List ℕ) → m' ≡ take r.first m → p' ≡ take r.second p → (x y : List ℕ)
-      → (e ≡ after (length out) 0 (listing_of m' p')) × ((out' ≡ stored out 0 (listing_of m' p'))
-      × ((x ≡ (cells_read m' p').0) × ((y ≡ (cells_read m' p').1) × (e ≤ 768)))) → Lists (x, y)
+      → record {
+        value : e ≡ after (length out) 0 (listing_of m' p');
+        out_after : out' ≡ stored out 0 (listing_of m' p');
+        cm_after : x ≡ (cells_read m' p').0;
+        cp_after : y ≡ (cells_read m' p').1;
+        upper_bound : e ≤ 768;
+      } → Lists (x, y)
   unfolding clashes_text clashes_cells
-  list_both_read z m' p' em ep x y (u, (v, (f, (g, h)))) =
-      runs 768 (omega arith) first second m p listing_of cells_read (cm, cp) out e out' r joined z m' p' em ep (x, y) (u, (v, (rw (f, g), h)))
+  list_both_read z m' p' em ep x y q =
+      runs 768 (omega arith) first second m p listing_of cells_read (cm, cp) out e out' r joined z m' p' em ep (x, y)
+      (record { value = q.value; out_after = q.out_after; buffers_after = rw (q.cm_after, q.cp_after); upper_bound = q.upper_bound })

@@ -68,12 +68,16 @@ unfolding after
 within n at s = omega arith
 
 module _ (d : List ℕ) (at r : ℕ) (b : List ℕ) where
-  ends : (s : List ℕ) (k : ℕ) → length s ≤ k → Puts d at s r b → (r ≡ after (length d) at s) × ((b ≡ stored d at s) × (r ≤ at + k))
-  ends s k h (u, v) = (u, (v, omega (arith, within (length d) at s)))
+  -- The line s was put into d, and ends within k bytes.
+  abbrev Ended : List ℕ → ℕ → Type 0
+  Ended s k = record { value : r ≡ after (length d) at s; out_after : b ≡ stored d at s; upper_bound : r ≤ at + k }
+
+  ends : (s : List ℕ) (k : ℕ) → length s ≤ k → Puts d at s r b → Ended s k
+  ends s k h p = record { value = p.value; out_after = p.d_after; upper_bound = omega (arith, p.value, within (length d) at s) }
 
   pub refusal-ends : (file number line : ℕ) → Puts d at (refusal_text file number line) r b
-      → (r ≡ after (length d) at (refusal_text file number line)) × ((b ≡ stored d at (refusal_text file number line)) × (r ≤ at + 26))
+      → Ended (refusal_text file number line) 26
   refusal-ends file number line = ends (refusal_text file number line) 26 (refusal-short file number line)
 
-  pub clash-ends : (c : Clash) → Puts d at (clash_text c) r b → (r ≡ after (length d) at (clash_text c)) × ((b ≡ stored d at (clash_text c)) × (r ≤ at + 24))
+  pub clash-ends : (c : Clash) → Puts d at (clash_text c) r b → Ended (clash_text c) 24
   clash-ends c = ends (clash_text c) 24 (clash-short c)

@@ -85,6 +85,6 @@ module _ (m p : List ℕ) (cm cp : ℕ) (r : Listing) (replied : r ≡ listing m
   listed-lines h = (rows-listed h).1
 
 -- A text that was put, under another name.
-pub put_as : (d s t : List ℕ) → s ≡ t → (k : ℕ) (r : ℕ) (b : List ℕ) → (r ≡ after (length d) 0 s) × ((b ≡ stored d 0 s) × (r ≤ k)) → k ≤ 768
-    → (r ≡ after (length d) 0 t) × ((b ≡ stored d 0 t) × (r ≤ 768))
-put_as d s t e k r b (u, (v, w)) h = (rw (← e) u, (rw (← e) v, omega arith))
+pub put_as : (d s t : List ℕ) → s ≡ t → (k : ℕ) (r : ℕ) (b : List ℕ) → record { value : r ≡ after (length d) 0 s; out_after : b ≡ stored d 0 s; upper_bound : r ≤ k } → k ≤ 768
+    → record { value : r ≡ after (length d) 0 t; out_after : b ≡ stored d 0 t; upper_bound : r ≤ 768 }
+put_as d s t e k r b p h = record { value = rw (← e) p.value; out_after = rw (← e) p.out_after; upper_bound = omega (arith, p.upper_bound) }

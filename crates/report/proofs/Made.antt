@@ -16,7 +16,7 @@ use Rattle.theory.proofs.Checks.{first-append, first-accepted, checks_premises}
 use Rattle.theory.proofs.Numbering.{pair_lt}
 use Rattle.reach.specs.Marks.{Searchable}
 use Rattle.emit.specs.Buffer.{stored, after}
-use Rattle.emit.proofs.Buffer.{Puts}
+use Rattle.report.proofs.Lines.{Prints}
 use Rattle.reach.specs.Ends.{ends_in}
 use Rattle.reach.proofs.Ends.{ends_of_table}
 use Rattle.table.specs.StepCounts.{steps_in}
@@ -32,7 +32,7 @@ use Rattle.report.specs.Parts.{six_of, is_refused, answer_text, Answers, reply_c
 
 pub six_put : (d : List ℕ) (compatible : Bool) (h : Automaton) (kept rounds steps ends : ℕ) (cells flags : List ℕ) (r : ℕ) (b : List ℕ)
     → kept ≡ kept_count flags → steps ≡ steps_in h.states cells → ends ≡ ends_in (table h cells) flags
-    → Puts d 0 (figures compatible h.states kept rounds steps ends) r b → Puts d 0 (six_of compatible h rounds cells flags) r b
+    → Prints d 0 (figures compatible h.states kept rounds steps ends) r b → Prints d 0 (six_of compatible h rounds cells flags) r b
 unfolding six_of
 six_put d compatible h kept rounds steps ends cells flags r b e f g p = rw (e, f, g) at p
 
@@ -42,12 +42,12 @@ module _ (names : List (List ℕ)) (s : Synthesis) (cells flags out : List ℕ) 
   abbrev Tells : Bool → Type 0
   Tells refused = Answers (reply_checked names s cells) (reply_text names s cells flags) out refused e out'
 
-  pub tell_refused : (r : Refusal) → s ≡ made.Refused r → (refused : Bool) → refused ≡ true → Puts out 0 (refusal_text r.table r.number 0) e out'
+  pub tell_refused : (r : Refusal) → s ≡ made.Refused r → (refused : Bool) → refused ≡ true → Prints out 0 (refusal_text r.table r.number 0) e out'
       → Tells refused
-  tell_refused r q refused w (u, v) = record { refuses = w ∙ rw q; ends = rw q u; stands = rw q v }
+  tell_refused r q refused w p = record { refuses = w ∙ rw q; ends = rw q p.value; stands = rw q p.out_after }
 
-  pub tell_none : (h : Automaton) (n : ℕ) → s ≡ made.NoController h n → Puts out 0 (six_of false h n cells flags) e out' → Tells false
-  tell_none h n q (u, v) = record { refuses = rw q; ends = rw q u; stands = rw q v }
+  pub tell_none : (h : Automaton) (n : ℕ) → s ≡ made.NoController h n → Prints out 0 (six_of false h n cells flags) e out' → Tells false
+  tell_none h n q p = record { refuses = rw q; ends = rw q p.value; stands = rw q p.out_after }
 
   pub tell_yes : (h : Automaton) (n : ℕ) → s ≡ made.Controller h n → (refused : Bool)
       → Answers (first (text_checks names (table h cells))) (with_text names (table h cells) (six_of true h n cells flags)) out refused e out'

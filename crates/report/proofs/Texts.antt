@@ -13,7 +13,7 @@ use Rattle.theory.specs.Table.{Table}
 use Rattle.theory.specs.Checks.{first}
 use Rattle.text.specs.Writing.{whole_text, text_length, writer_checks, writer_bytes}
 use Rattle.emit.specs.Buffer.{stored, after}
-use Rattle.emit.proofs.Buffer.{Puts}
+use Rattle.report.proofs.Lines.{Prints}
 use Rattle.writer.specs.declared.Printed.{Printed}
 use Rattle.writer.specs.declared.Printed.TheVariants as reply
 use Rattle.writer.specs.Contract.{writer_reply}
@@ -28,11 +28,11 @@ module _ (names : List (List ℕ)) (t : Table) (bytes bytes' : List ℕ) (k : Pr
   checked = first (text_checks names t)
 
   pub text-refused : length bytes ≡ 65536 → (six : List ℕ) (r : Refusal) → k ≡ reply.Refused r → (out : List ℕ) (refused : Bool) (e : ℕ) (out' : List ℕ) → refused ≡ true
-      → Puts out 0 (refusal_text r.table r.number 0) e out' → Answers checked (with_text names t six) out refused e out'
+      → Prints out 0 (refusal_text r.table r.number 0) e out' → Answers checked (with_text names t six) out refused e out'
   unfolding writer_reply text_checks
-  text-refused size six r q out refused e out' w (u, v) =
+  text-refused size six r q out refused e out' w p =
       let c : checked ≡ Refused r = refused_of checked _ r (sym (rw size at replied) ∙ q) in
-      record { refuses = w ∙ rw c; ends = rw c u; stands = rw c v }
+      record { refuses = w ∙ rw c; ends = rw c p.value; stands = rw c p.out_after }
 
   -- A text that was made, in whatever room.
   module _ (written : bytes' ≡ writer_bytes t sequencer_word names bytes) (n : ℕ) (fits : k ≡ reply.Length n) where
@@ -59,10 +59,10 @@ module _ (names : List (List ℕ)) (t : Table) (bytes bytes' : List ℕ) (k : Pr
     text-within e = omega (arith, ap length whole, length-append text (drop n bytes), length-drop n bytes, long)
 
     pub text_follows : (six out : List ℕ) (refused : Bool) (e : ℕ) (out' : List ℕ) → refused ≡ false
-        → (e ≡ after (length out) 0 (six ++ take (n - 0) bytes')) × (out' ≡ stored out 0 (six ++ take (n - 0) bytes'))
+        → Prints out 0 (six ++ take (n - 0) bytes') e out'
         → Answers checked (with_text names t six) out refused e out'
     text_follows six out refused e out' told w =
         let z : n - 0 ≡ length text = omega (arith, long) in
         let part : take (n - 0) bytes' ≡ text = rw (z, whole) (take-append_seam text (drop n bytes)) in
         let v = rw part at w in
-        record { refuses = told ∙ rw taken; ends = rw taken v.0; stands = rw taken v.1 }
+        record { refuses = told ∙ rw taken; ends = rw taken v.value; stands = rw taken v.out_after }

@@ -20,7 +20,7 @@ use Rattle.text.specs.declared.Spelling.TheVariants.{Folded}
 use Rattle.text.specs.Reading.{Reading, Joint, both, neither, read_both, cells_first, cells_second, table_read}
 use Rattle.text.proofs.Accepted as accepted
 use Rattle.emit.specs.Buffer.{stored, after}
-use Rattle.emit.proofs.Buffer.{Puts}
+use Rattle.report.proofs.Lines.{Prints}
 use Rattle.names.specs.Numbering.{signals_of, table_of}
 use Rattle.reader.specs.declared.NamedTables.{NamedTables}
 use Rattle.reader.specs.Contract.{signals_read, named_reply}
@@ -133,18 +133,23 @@ joint-tables (neither s) r e f = absurd (subst T (sym (ap (λ k. k.refused) e) �
 -- A text that was put, with a limit to where it ends, and what is left in the four buffers.
 abbrev pub Ends : (bytes : List ℕ) (end : ℕ) (bytes' text : List ℕ) (left buffers : Buffers) → Type 0
 Ends bytes end bytes' text left buffers =
-    (end ≡ after (length bytes) 0 text) × ((bytes' ≡ stored bytes 0 text) × ((left ≡ buffers) × (end ≤ 65608)))
+    record { value : end ≡ after (length bytes) 0 text; out_after : bytes' ≡ stored bytes 0 text; buffers_after : left ≡ buffers; upper_bound : end ≤ 65608 }
 
 -- The contract of the call.
 abbrev Reports : (m p cm cp cells flags bytes : List ℕ) (end : ℕ) (bytes' : List ℕ) → Buffers → Type 0
 Reports m p cm cp cells flags bytes end bytes' left =
     Ends bytes end bytes' (report_text m p (length cm) (length cp) (length cells) (length flags)) left (report_buffers m p cm cp cells flags)
 
-reports : (m p cm cp cells flags bytes : List ℕ) (end : ℕ) (bytes' : List ℕ) (left : Buffers) → Puts bytes 0 (report_text m p (length cm) (length cp) (length cells) (length flags)) end bytes'
+reports : (m p cm cp cells flags bytes : List ℕ) (end : ℕ) (bytes' : List ℕ) (left : Buffers) → Prints bytes 0 (report_text m p (length cm) (length cp) (length cells) (length flags)) end bytes'
     → left ≡ report_buffers m p cm cp cells flags → Reports m p cm cp cells flags bytes end bytes' left
-reports m p cm cp cells flags bytes end bytes' left (u, v) e =
+reports m p cm cp cells flags bytes end bytes' left w e =
     let text = report_text m p (length cm) (length cp) (length cells) (length flags) in
-    (u, (v, (e, omega (arith, u, within (length bytes) 0 text, report_short m p (length cm) (length cp) (length cells) (length flags)))))
+    record {
+      value = w.value;
+      out_after = w.out_after;
+      buffers_after = e;
+      upper_bound = omega (arith, w.value, within (length bytes) 0 text, report_short m p (length cm) (length cp) (length cells) (length flags));
+    }
 
 module _ (cm₀ cp₀ m p cm cp : List ℕ) (k : NamedTables) (replied : k ≡ named_reply (read_both Folded (length cm₀) m (length cp₀) p))
     (signals-read : signals_of m p k.names ≡ signals_read (read_both Folded (length cm₀) m (length cp₀) p))
@@ -168,7 +173,7 @@ module _ (cm₀ cp₀ m p cm cp : List ℕ) (k : NamedTables) (replied : k ≡ n
     unfolding report_buffers
     left-refused = (λ i. (first-left i, second-left i, cells, flags)) ∙ rw none
 
-    pub reading-refused : (out : List ℕ) (e : ℕ) (out' : List ℕ) → Puts out 0 (refusal_text r.text r.number r.line) e out'
+    pub reading-refused : (out : List ℕ) (e : ℕ) (out' : List ℕ) → Prints out 0 (refusal_text r.text r.number r.line) e out'
         → Reports m p cm₀ cp₀ cells flags out e out' (cm, cp, cells, flags)
     reading-refused out e out' w = reports m p cm₀ cp₀ cells flags out e out' _ (rw text-refused at w) left-refused
 
@@ -207,8 +212,8 @@ module _ (cm₀ cp₀ m p cm cp : List ℕ) (k : NamedTables) (replied : k ≡ n
         let n : b.states ≡ y.header.states = ap (λ (h : Automaton). h.states) given.header' in
         record { few = omega (arith, sound.second.few_states); room = omega (arith, ap length second-cells, sound.second.fits, sound.second.size) }
 
-    pub holds-both : Holds a cm × Holds b cp
-    holds-both = (holds-first, holds-second)
+    pub holds-both : record { holds : Holds a cm; holds_2 : Holds b cp }
+    holds-both = record { holds = holds-first; holds_2 = holds-second }
 
     -- The names of the table of places are those of the signals.
     names-read : names_in m p k.names ≡ signal_names y.signals
@@ -230,9 +235,9 @@ module _ (cm₀ cp₀ m p cm cp : List ℕ) (k : NamedTables) (replied : k ≡ n
       left : Leaves (signal_names y.signals) (table_read x) (table_read y) cells flags out refused e cells' flags' out'
       left = rw (first-table, second-table, names-read) at leaves
 
-      text_put : Puts out 0 (report_text m p (length cm₀) (length cp₀) (length cells) (length flags)) e out'
+      text_put : Prints out 0 (report_text m p (length cm₀) (length cp₀) (length cells) (length flags)) e out'
       unfolding report_text
-      text_put = rw given.are (left.answers.ends, left.answers.stands)
+      text_put = rw given.are (record { value = left.answers.ends; out_after = left.answers.stands })
 
       abbrev undone : Buffers
       undone = (replicate (length cm₀) 65535, replicate (length cp₀) 65535, cells, flags)

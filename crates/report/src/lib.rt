@@ -311,7 +311,7 @@ pub fn report<'a>(
 ) -> usize
     ensures value { result ≡ after (length out.old) 0 (report_text m.now p.now (length cm.old) (length cp.old) (length cells.old) (length flags.old)) }
     ensures out_after { out.new ≡ stored out.old 0 (report_text m.now p.now (length cm.old) (length cp.old) (length cells.old) (length flags.old)) }
-    ensures flags_after { (cm.new, cp.new, cells.new, flags.new) ≡ report_buffers m.now p.now cm.old cp.old cells.old flags.old }
+    ensures buffers_after { (cm.new, cp.new, cells.new, flags.new) ≡ report_buffers m.now p.now cm.old cp.old cells.old flags.old }
     ensures upper_bound { result ≤ 65608 }
 {
     let read = reader::read_named(m, p, cm, cp);

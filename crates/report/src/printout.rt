@@ -2,7 +2,7 @@
 // clash (document 02, S-9). Each call returns the place after what it put.
 ghost use Rattle.std.specs.Prelude.{◌≡◌, ◌+◌, ◌≤◌, length};
 ghost use Rattle.emit.specs.Buffer.{after, stored};
-ghost use Rattle.report.specs.Lines.{refusal_text, clash_text, figures as figuresText, verdict_text, figure_text};
+ghost use Rattle.report.specs.Lines.{refusal_text, clash_text, figures as figures_text, verdict_text, figure_text};
 
 use text::Clash;
 
@@ -63,8 +63,8 @@ pub fn figures(
     steps: usize,
     ends: usize,
 ) -> usize
-    ensures value { result ≡ after (length out.old) 0 (figuresText compatible pairs kept rounds steps ends) }
-    ensures out_after { out.new ≡ stored out.old 0 (figuresText compatible pairs kept rounds steps ends) }
+    ensures value { result ≡ after (length out.old) 0 (figures_text compatible pairs kept rounds steps ends) }
+    ensures out_after { out.new ≡ stored out.old 0 (figures_text compatible pairs kept rounds steps ends) }
 {
     let a = verdict(out, compatible);
     let b = figure(out, a, b"pairs", pairs);

@@ -66,7 +66,7 @@ pub fn sequencer_output<'a>(
 ) -> usize
     ensures value { result ≡ after (length out.old) 0 (program_text first second m.now p.now (length cm.old) (length cp.old) (length cells.old) (length flags.old)) }
     ensures out_after { out.new ≡ stored out.old 0 (program_text first second m.now p.now (length cm.old) (length cp.old) (length cells.old) (length flags.old)) }
-    ensures flags_after { (cm.new, cp.new, cells.new, flags.new) ≡ program_buffers first second m.now p.now cm.old cp.old cells.old flags.old }
+    ensures buffers_after { (cm.new, cp.new, cells.new, flags.new) ≡ program_buffers first second m.now p.now cm.old cp.old cells.old flags.old }
     ensures upper_bound { result ≤ 65608 }
 {
     let read = both(first, second);
@@ -91,7 +91,7 @@ pub fn clashes_output<'a>(
 ) -> usize
     ensures value { result ≡ after (length out.old) 0 (clashes_text first second m.now p.now (length cm.old) (length cp.old)) }
     ensures out_after { out.new ≡ stored out.old 0 (clashes_text first second m.now p.now (length cm.old) (length cp.old)) }
-    ensures cp_after { (cm.new, cp.new) ≡ clashes_cells first second m.now p.now cm.old cp.old }
+    ensures buffers_after { (cm.new, cp.new) ≡ clashes_cells first second m.now p.now cm.old cp.old }
     ensures upper_bound { result ≤ 768 }
 {
     let read = both(first, second);

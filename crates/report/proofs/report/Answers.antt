@@ -4,7 +4,7 @@ use Rattle.report.proofs.report.Goals as goal
 pub returns-then-read : goal.returns-then-read
 returns-then-read c = let f = c.refusal_line.ensures in
     let r = c.read_named-read.ensures in
-    reading-refused _ _ _ _ _ _ _ r.value r.names_value r.cm_after r.cp_after c.if-read.true _ _ _ _ _ (f.value, f.out_after)
+    reading-refused _ _ _ _ _ _ _ r.value r.names_value r.cm_after r.cp_after c.if-read.true _ _ _ _ _ (record { value = f.value; out_after = f.out_after })
 
 pub make_named-answer-requires : goal.make_named-answer-requires
 make_named-answer-requires c = let s = c.args in

@@ -12,4 +12,4 @@ returns c = let a = c.args in
     let w = c.write.ensures in
     let t = c.tell_text.ensures in
     text_follows _ _ _ _ _ w.value w.out_after _ c.in-Length.is
-    (six_of true a.header a.rounds a.cells.now a.flags.now) _ _ _ _ t.refused_value t.1
+    (six_of true a.header a.rounds a.cells.now a.flags.now) _ _ _ _ t.refused_value (record { value = t.end_value; out_after = t.out_after })
