@@ -1,13 +1,13 @@
 #!/usr/bin/env bash
-# The short test of a change: proves what has changed, holds the contracts and the list of claims to the sources, draws the picture again, tries the
-# programs on the cases, and makes a tenth of the comparison with the independent implementation. Unlike the gate it tries no wrong program. It takes
-# less than two minutes where little has to be proved and no archive built; standard error says what is. The last line is 'N passed, M failed', and
-# the exit status says the same.
+# The short test of a change: looks at the layout, proves what has changed, holds the contracts and the list of claims to the sources, draws the picture
+# again, tries the programs on the cases, and makes a tenth of the comparison with the independent implementation. Unlike the gate it tries no wrong
+# program, and its proofs are not the verdict, since they are made over what earlier ones kept. Standard error says what is proved and built. The last line
+# is 'N passed, M failed', and the exit status says the same.
 script=quick
 . "$(dirname -- "$0")/counted.sh" || { echo "0 passed, 1 failed"; exit 1; }
 . tests/stages.sh || exit 1
 
-stage "layout" rt fmt --check
+stage "layout" bash tests/layout.sh
 stage "contracts" python3 tests/contracts.py
 stage "claims" python3 tests/claims.py
 stage "picture" python3 tests/draw_test.py

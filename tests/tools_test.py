@@ -13,45 +13,48 @@ import time
 from verdict import tell
 
 TOP = os.path.join(os.path.dirname(os.path.abspath(__file__)), "..")
-# Proves a crate by copying its one file to the stamp, fails where the file has the word `wrong`, and never ends where it has `endless`.
+# Stands in for rt in a crate's folder: makes what the verb has to leave, fails where the source has the word `wrong`, and never ends where it has `endless`.
 RT = """#!/bin/sh
-mkdir -p target/log target/stamp target/staticlib
-if [ "$1" = staticlib ]; then cp "target/stamp/$2" "target/staticlib/lib$2.a"; exit; fi
-for crate in $(sed 's/:.*//' crates.txt); do
-    if cmp -s "crates/$crate" "target/stamp/$crate"; then echo "rt: $crate proved (unchanged since it was last proved)"; continue; fi
-    echo "fn $crate::call: said" | tee "target/log/$crate.say"
-    if grep -q endless "crates/$crate"; then sleep 600 & echo $! >sleeper; wait; fi
-    sleep 0.1
-    if grep -q wrong "crates/$crate"; then echo "rt: $crate NOT PROVED (exit 1, 0 s)"; exit 1; fi
-    cp "crates/$crate" "target/stamp/$crate"
-    echo "rt: $crate proved (0 s)"
-done
+if [ "$1" = version ]; then echo "kit of the test"; exit; fi
+crate=${PWD##*/}
+echo "$1 $crate" >>../../calls
+echo "fn $crate::call: said"
+if grep -q endless src/*.rt; then sleep 600 & echo $! >../../sleeper; wait; fi
+if grep -q wrong src/*.rt; then echo "logic=not-proved"; exit 1; fi
+mkdir -p out
+case $1 in
+    run) cp src/main.rt "out/$crate" ;;
+    lib) cp src/lib.rt "out/lib$crate.a" ;;
+esac
 """
-CRATES = ("theory", "moqresam", "harness")
-PRINTED = """rt: theory proved (3 s)
-rt: moqresam proved (20 s)
-rt: harness NOT PROVED (exit 1, 7 s)
-rt: must-fail theory/one: refused, as it must be (first at specs/A.antt:1:2; 4 s)
-rt: must-fail theory/two: refused, as it must be (5 s)
-rt: must-fail moqresam/one: NOT REFUSED: the crate is still proved with this edit (6 s)
-rt: ok, 3 crates proved, 2 must-fail edits refused
+CRATES = {"theory": "", "files": "theory", "moqresam staticlib": "theory", "harness staticlib": "files theory", "sequencer": "files"}
+PRINTED = """edits: theory: 2 files, 2 tried (9 s)
+edits: moqresam: 3 files, 1 tried (6 s)
+crates/theory/must-fail/one.edit: no fact fails
+wrong programs: 9 tried, 1 faults
 """
-ROWS = [["layout", "2"], ["proofs", "40"], ["sum", "42"], ["moqresam", "20", "6", "26"], ["theory", "3", "9", "12"], ["harness", "7", "-", "7"],
-        ["sum", "30", "15", "45"]]
+ROWS = [["layout", "2"], ["proofs", "40"], ["sum", "42"], ["theory", "2", "9"], ["moqresam", "1", "6"], ["sum", "3", "15"]]
+
+
+def source(crate):
+    """The path of the one source of a crate."""
+    return f"crates/{crate}/src/{'main' if crate == 'sequencer' else 'lib'}.rt"
 
 
 def prepare():
-    """Fills the working directory: a repository of three crates, and the stand-ins in bin/."""
-    for folder in ("bin", "crates", "tools", "tests"):
+    """Fills the working directory: a repository of five crates, and the stand-ins in bin/."""
+    for folder in ("bin", "tools", "tests"):
         os.mkdir(folder)
     for file in ("tools/prove.py", "tests/archives.sh", "tests/times.py"):
         shutil.copy(os.path.join(TOP, file), file)
     for name, text in (("bin/rt", RT), ("bin/objcopy", "#!/bin/sh\n")):
         write(name, text)
         os.chmod(name, 0o755)
-    write("crates.txt", "theory:\nmoqresam: theory\nharness: theory moqresam\n")
+    write("crates.txt", "# What each crate uses.\n" + "".join(f"{crate}: {needs}\n" for crate, needs in CRATES.items()))
     for crate in CRATES:
-        write(f"crates/{crate}", crate)
+        name = crate.split()[0]
+        os.makedirs(f"crates/{name}/src")
+        write(source(name), name)
     os.environ["PATH"] = os.path.abspath("bin") + os.pathsep + os.environ["PATH"]
 
 
@@ -66,20 +69,35 @@ def run(*words):
     return ended.returncode, ended.stdout, re.sub(r"(?m)^ +\d+ s  ", "", ended.stderr)
 
 
+def calls():
+    """The calls of rt since the last look."""
+    text = open("calls", encoding="ascii").read() if os.path.exists("calls") else ""
+    write("calls", "")
+    return text.splitlines()
+
+
 def proofs():
     """Pairs of what prove.py gave and what it must give."""
     prove = (sys.executable, "tools/prove.py")
-    lines = [f"proving {nth} of 3: {crate}\n" for nth, crate in enumerate(CRATES, 1)]
+    lines = [f"proving {nth} of 3: {crate}\n" for nth, crate in enumerate(("theory", "files", "harness"), 1)]
     yield run(*prove, "harness"), (0, "", "".join(lines) + "3 of 3 proved\n")
+    yield calls(), ["lib theory", "lib files", "check harness"]
     yield run(*prove, "harness"), (0, "", "")
-    write("crates/moqresam", "changed")
-    yield run(*prove), (0, "", "proving 2 of 3: moqresam\n3 of 3 proved\n")
-    write("crates/theory", "changed")
-    write("crates/moqresam", "wrong")
-    yield run(*prove), (1, "", lines[0] + lines[1] + "fn moqresam::call: said\nrt: moqresam NOT PROVED (exit 1, 0 s)\n")
-    write("crates/moqresam", "endless")
+    yield run(*prove), (0, "", "proving 3 of 5: moqresam\nproving 5 of 5: sequencer\n5 of 5 proved\n")
+    yield calls(), ["check moqresam", "run sequencer"]
+    yield open("target/bin/sequencer", encoding="ascii").read(), "sequencer"
+    write("target/bin/sequencer", "other bytes")
+    yield run(*prove, "sequencer"), (0, "", "proving 3 of 3: sequencer\n3 of 3 proved\n")
+    write(source("files"), "changed")
+    yield run(*prove), (0, "", "".join(f"proving {nth} of 5: {crate}\n" for nth, crate in ((2, "files"), (4, "harness"), (5, "sequencer"))) + "5 of 5 proved\n")
+    write(source("theory"), "changed")
+    write(source("files"), "wrong")
+    yield run(*prove, "harness"), (1, "", lines[0] + lines[1] + "fn files::call: said\nlogic=not-proved\nfiles is not proved\n")
+    yield open("target/log/files.say", encoding="ascii").read(), "fn files::call: said\nlogic=not-proved\n"
+    yield run(*prove, "file"), (2, "", "crates.txt does not list file\n")
+    write(source("files"), "endless")
     yield stopped(prove), (130, "gone")
-    write("crates/moqresam", "moqresam")
+    write(source("files"), "files")
 
 
 def stopped(prove):
@@ -117,7 +135,7 @@ def archives():
 
     yield built(), ["moqresam", "harness"]
     yield built(), []
-    write("crates/harness", "changed")
+    write(source("harness"), "changed")
     yield built(), ["harness"]
     write("target/staticlib/libmoqresam.a", "other bytes")
     yield built(), ["moqresam"]
@@ -125,7 +143,7 @@ def archives():
     yield built(), ["moqresam"]
     write("tests/archives.sh", open("tests/archives.sh", encoding="utf-8").read() + "# changed\n")
     yield built(), ["moqresam", "harness"]
-    write("crates/moqresam", "wrong")
+    write(source("moqresam"), "wrong")
     yield run("bash", "tests/archives.sh")[0], 1
 
 
@@ -134,7 +152,7 @@ def times():
     write("stages", "2\tlayout\n40\tproofs\n")
     write("printed", PRINTED)
     status, printed, _ = run(sys.executable, "tests/times.py", "stages", "printed")
-    yield (status, [line.split() for line in printed.splitlines() if not re.search("stage|crate", line)]), (0, ROWS)
+    yield (status, [line.split() for line in printed.splitlines() if not re.search("stage|wrong", line)]), (0, ROWS)
     write("printed", "0 passed, 1 failed\n")
     yield run(sys.executable, "tests/times.py", "stages", "printed")[0], 1
 
