@@ -1,7 +1,7 @@
 #!/usr/bin/env bash
 # The library and the programs against an independent implementation of the papers, tests/reference: compiles the reference with the two
 # archives, and compares on random and on all small tables, texts and sequencers. The last line is 'N passed, M failed'.
-# It is run after `rt ci`, which leaves the programs in target/bin, and archives.sh.
+# It is run after tools/prove.py, which leaves the programs in target/bin, and archives.sh.
 #
 #     tests/reference.sh [SEED]            the comparison of the gate
 #     tests/reference.sh quick [SEED]      a tenth of the cases
