@@ -3,11 +3,11 @@
 fails, and not because the text no longer fits. One that changes a function has to fail at a fact of that very function; and where a check tries
 such ones alone, no fact may fail of anything else: then what fails is each one's own.
 
-    edits.py [CRATE ..]    the wrong programs of these crates; without a name, of all
+    edits.py [--jobs N] [CRATE ..]    the wrong programs of these crates; without a name, of all
 
 `rt ci` tries them too, but says one line of a file, which does not tell the functions at fault. So each file is tried here by a check of its own, on a
-copy of the crates outside the tree, over what a check of the crate as it stands has kept. As many checks run as there are processors. What a check said is
-kept in target/must-fail/CRATE/LABEL.log, with a hash of all that it stands on: a file of which nothing has changed is judged by it, and not tried again.
+copy of the crates outside the tree, over what a check of the crate as it stands has kept. N checks run side by side, or as many as there are processors and
+memory for. What a check said is kept in target/must-fail/CRATE/LABEL.log, with a hash of all that it stands on: a file of which nothing has changed is judged by it, and not tried again.
 
 A line for each crate says how many checks it took, and their seconds; then come the faults. The exit status says whether there are any."""
 import concurrent.futures
@@ -297,9 +297,9 @@ def work(folder, used, checks, queue, results):
         results[trial.path] = log, why, time.monotonic() - began
 
 
-def try_all(left, used):
-    """Tries the files; gives for each what its check said or why there is none, and the seconds."""
-    results, checks, queue, many = {}, Checks(), Queue(left), max(1, min(at_once(), len(left)))
+def try_all(left, used, jobs):
+    """Tries the files, so many at once; gives for each what its check said or why there is none, and the seconds."""
+    results, checks, queue, many = {}, Checks(), Queue(left), max(1, min(jobs, len(left)))
     with tempfile.TemporaryDirectory(prefix="edits-") as room:
         with concurrent.futures.ThreadPoolExecutor(many) as pool:
             try:
@@ -314,12 +314,12 @@ def interrupted(number, frame):
     raise KeyboardInterrupt
 
 
-def looked_at(tried):
-    """The faults of the files, and a line for each crate."""
+def looked_at(tried, jobs):
+    """The faults of the files; prints a line for each crate."""
     used, faults, seconds, checked = needs(), [], Counter(), Counter()
     sums = {trial.path: sum_of(trial, used) for trial in tried if trial.crate in used and not unfit_together(trial)}
     logs = {path: kept(trial, sums[path]) for trial in tried for path in [trial.path] if path in sums}
-    results = try_all([trial for trial in tried if trial.path in sums and logs[trial.path] is None], used)
+    results = try_all([trial for trial in tried if trial.path in sums and logs[trial.path] is None], used, jobs)
     for trial in tried:
         why = unfit_together(trial) or ("its crate is not in crates.txt" if trial.path not in sums else None)
         if trial.path in results:
@@ -337,12 +337,15 @@ def looked_at(tried):
 
 def main(names):
     os.chdir(TOP)
+    jobs = at_once()
+    if len(names) > 1 and names[0] == "--jobs" and re.fullmatch("[1-9][0-9]?", names[1]):
+        jobs, names = int(names[1]), names[2:]
     for number in (signal.SIGTERM, signal.SIGHUP):
         signal.signal(number, interrupted)
     tried = [trial for trial in trials() if trial.crate in names or not names]
     lacking = sorted(set(names) - {trial.crate for trial in tried})
     try:
-        faults = [f"crates/{name}: no wrong programs" for name in lacking] + looked_at(tried)
+        faults = [f"crates/{name}: no wrong programs" for name in lacking] + looked_at(tried, jobs)
     except KeyboardInterrupt:
         print("edits: stopped", file=sys.stderr)
         return 130
