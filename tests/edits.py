@@ -221,6 +221,8 @@ class Copy:
 
     def prepare(self, crate):
         """Checks the crate as it stands, and remembers why it is not proved, if it is not."""
+        if self.crate and not self.wrong:
+            self.put_back()
         self.crate = crate
         status, said = self.checks.run(f"{self.folder}/crates/{crate}")
         self.wrong = None if status == 0 else f"{crate} is not proved as it stands: {last_line(said)}"
@@ -242,8 +244,10 @@ class Copy:
         folder = f"{self.folder}/crates/{trial.crate}"
         try:
             texts = edited(open(trial.path, encoding="utf-8").read(), lambda path: open(f"{folder}/{path}", encoding="utf-8").read())
-        except (ValueError, OSError) as why:
-            return None, str(why)
+        except ValueError as why:
+            return None, f"it cannot be applied: {why}"
+        except FileNotFoundError as missing:
+            return None, f"it cannot be applied: there is no file {os.path.relpath(missing.filename, folder)}"
         for path, text in texts.items():
             with open(f"{folder}/{path}", "w", encoding="utf-8") as file:
                 file.write(text)
