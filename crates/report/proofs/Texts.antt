@@ -12,7 +12,6 @@ use Rattle.theory.specs.declared.Checked.TheVariants.{Accepted, Refused}
 use Rattle.theory.specs.Table.{Table}
 use Rattle.theory.specs.Checks.{first}
 use Rattle.text.specs.Writing.{whole_text, text_length, writer_checks, writer_bytes}
-use Rattle.emit.specs.Buffer.{stored, after}
 use Rattle.report.proofs.Lines.{Prints}
 use Rattle.writer.specs.declared.Printed.{Printed}
 use Rattle.writer.specs.declared.Printed.TheVariants as reply

@@ -29,7 +29,7 @@ use Rattle.text.specs.declared.Spelling.TheVariants.{Exact}
 use Rattle.text.specs.declared.TextRefusal.{TextRefusal}
 use Rattle.text.specs.Fields.{split, onto, value}
 use Rattle.text.specs.Lines.{Entry, takes_table, parse}
-use Rattle.text.specs.Reading.{Signal, Reading, Result, next, stop, index_of, started, with_role, known, declaring, stepping, entered, Outcome, finished, ended, refuse_at, onward, is_nil, read_lines, fresh, read_from, read_alone, both, after_first, after_second, read_both}
+use Rattle.text.specs.Reading.{Signal, Reading, Result, next, stop, index_of, started, with_role, declaring, stepping, entered, Outcome, finished, ended, refuse_at, onward, is_nil, read_lines, fresh, read_from, read_alone, both, after_first, after_second, read_both}
 use Rattle.text.specs.Lookup.{declares}
 use Rattle.text.proofs.Split.{split-some}
 use Rattle.text.proofs.Names.{index_le}
