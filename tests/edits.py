@@ -9,7 +9,8 @@ such ones alone, no fact may fail of anything else: then what fails is each one'
 copy of the crates outside the tree, over what a check of the crate as it stands has kept. N checks run side by side, or as many as there are processors and
 memory for. What a check said is kept in target/must-fail/CRATE/LABEL.log, with a hash of all that it stands on: a file of which nothing has changed is judged by it, and not tried again.
 
-A line for each crate says how many checks it took, and their seconds; then come the faults. The exit status says whether there are any."""
+Standard error says what was tried. In the end a line for each crate says how many checks it took, and their seconds; then come the faults. The exit status
+says whether there are any."""
 import concurrent.futures
 import functools
 import hashlib
@@ -264,14 +265,15 @@ def last_line(said):
 
 
 class Queue:
-    """The files that are to be tried. Whoever asks gets one of the crate that he is at, if there is one left; else one of the crate with most left."""
+    """The files that are to be tried, and what came of them."""
 
     def __init__(self, left):
-        self.left, self.lock = {}, threading.Lock()
+        self.left, self.count, self.results, self.lock, self.start = {}, len(left), {}, threading.Lock(), time.monotonic()
         for trial in left:
             self.left.setdefault(trial.crate, []).append(trial)
 
     def next(self, crate):
+        """A file of the crate that whoever asks is at, if there is one left; else one of the crate with most left."""
         with self.lock:
             if not self.left:
                 return None
@@ -281,6 +283,13 @@ class Queue:
                 del self.left[crate]
             return trial
 
+    def done(self, trial, log, why, seconds):
+        """Takes what a check said of the file, or why there is no such check, and how long it took."""
+        with self.lock:
+            self.results[trial.path] = log, why, seconds
+            words = f"tried {len(self.results)} of {self.count}: {trial.crate}/{trial.label} ({seconds:.0f} s)"
+            print(f"{time.monotonic() - self.start:5.0f} s  {words}", file=sys.stderr, flush=True)
+
 
 def at_once():
     """How many checks are run side by side: one for each processor, as far as there is memory."""
@@ -288,8 +297,8 @@ def at_once():
     return max(1, min(len(os.sched_getaffinity(0)), int(free[1]) * 1024 // MEMORY))
 
 
-def work(folder, used, checks, queue, results):
-    """Tries files until none is left."""
+def work(folder, sums, used, checks, queue):
+    """Tries files until none is left, and keeps what was said of each."""
     copy = None
     while True:
         trial = queue.next(copy and copy.crate)
@@ -298,20 +307,24 @@ def work(folder, used, checks, queue, results):
         began = time.monotonic()
         copy = copy or Copy(folder, used, checks)
         log, why = copy.try_out(trial)
-        results[trial.path] = log, why, time.monotonic() - began
+        if checks.ended:
+            return
+        if why is None:
+            keep(trial, sums[trial.path], log)
+        queue.done(trial, log, why, time.monotonic() - began)
 
 
-def try_all(left, used, jobs):
+def try_all(left, sums, used, jobs):
     """Tries the files, so many at once; gives for each what its check said or why there is none, and the seconds."""
-    results, checks, queue, many = {}, Checks(), Queue(left), max(1, min(jobs, len(left)))
+    checks, queue, many = Checks(), Queue(left), max(1, min(jobs, len(left)))
     with tempfile.TemporaryDirectory(prefix="edits-") as room:
         with concurrent.futures.ThreadPoolExecutor(many) as pool:
             try:
-                for done in [pool.submit(work, f"{room}/{number}", used, checks, queue, results) for number in range(many)]:
+                for done in [pool.submit(work, f"{room}/{number}", sums, used, checks, queue) for number in range(many)]:
                     done.result()
             finally:
                 checks.end()
-    return results
+    return queue.results
 
 
 def interrupted(number, frame):
@@ -323,15 +336,13 @@ def looked_at(tried, jobs):
     used, faults, seconds, checked = needs(), [], Counter(), Counter()
     sums = {trial.path: sum_of(trial, used) for trial in tried if trial.crate in used and not unfit_together(trial)}
     logs = {path: kept(trial, sums[path]) for trial in tried for path in [trial.path] if path in sums}
-    results = try_all([trial for trial in tried if trial.path in sums and logs[trial.path] is None], used, jobs)
+    results = try_all([trial for trial in tried if trial.path in sums and logs[trial.path] is None], sums, used, jobs)
     for trial in tried:
         why = unfit_together(trial) or ("its crate is not in crates.txt" if trial.path not in sums else None)
         if trial.path in results:
             logs[trial.path], why, took = results[trial.path]
             seconds[trial.crate] += took
             checked[trial.crate] += 1
-            if why is None:
-                keep(trial, sums[trial.path], logs[trial.path])
         faults.extend(f"{trial.path}: {fault}" for fault in ([why] if why else judge(trial, logs[trial.path])))
     for crate in dict.fromkeys(trial.crate for trial in tried):
         files = sum(trial.crate == crate for trial in tried)
