@@ -309,7 +309,9 @@ def work(folder, sums, used, checks, queue):
         log, why = copy.try_out(trial)
         if checks.ended:
             return
-        if why is None:
+        # What was changed meanwhile is tried again the next time.
+        sum_of_crate.cache_clear()
+        if why is None and sum_of(trial, used) == sums[trial.path]:
             keep(trial, sums[trial.path], log)
         queue.done(trial, log, why, time.monotonic() - began)
 
