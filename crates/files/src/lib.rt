@@ -19,7 +19,8 @@ pub enum File {
 const ATTEMPTS: usize = 1000;
 
 // Reads the file from its start until the buffer is full, the file ends, or 65,537 bytes are read: one more than the longest text has, so that a
-// longer one is noticed. A file that is missing, is a folder, or fails to be read is unreadable, and leaves the buffer as it was.
+// longer one is noticed. A file that is missing, is a folder, has a path that is no UTF-8, or fails to be read is unreadable, and leaves the buffer
+// as it was.
 pub fn read(rt: &impl Files, path: &[u8], buf: &mut [u8]) -> File
     ensures { Reads result buf.old buf.new }
 {
