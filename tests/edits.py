@@ -7,7 +7,8 @@ such ones alone, no fact may fail of anything else: then what fails is each one'
 
 `rt ci` tries them too, but says one line of a file, which does not tell the functions at fault. So each file is tried here by a check of its own, on a
 copy of the crates outside the tree, over what a check of the crate as it stands has kept. N checks run side by side, or as many as there are processors and
-memory for. What a check said is kept in target/must-fail/CRATE/LABEL.log, with a hash of all that it stands on: a file of which nothing has changed is judged by it, and not tried again.
+memory for. What a check said is kept in target/must-fail/CRATE/LABEL.log, with a hash of all that it stands on: a file of which nothing has changed is
+judged by it, and not tried again.
 
 Standard error says what was tried. In the end a line for each crate says how many checks it took, and their seconds; then come the faults. The exit status
 says whether there are any."""
