@@ -8,8 +8,13 @@ from typing import NamedTuple
 HANDED_ON = re.compile(r"(?m)^pub use \w+::(?:(\w+)|\{([\w\s,]*)\});\n")
 
 
+# The head of an `impl`: the trait with its argument, if it is of one, and the type.
+IMPL = re.compile(r"impl(?:<.*?>)? (?:(\w+)(?:<(.*)>)? for )?(\w+)(?:<.*>)? \{$")
+
+
 class Function(NamedTuple):
-    """`head` has its parameters and contract; the body stands from `start` to `end` in the file."""
+    """`head` has its parameters and contract; the body stands from `start` to `end` in the file. A method's name begins as the prover's does: that of
+    `From<A> for B` with `BFromA::`, that of `B` itself with `B::`."""
 
     name: str
     head: str
@@ -17,16 +22,26 @@ class Function(NamedTuple):
     end: int
 
 
+def spelled(argument):
+    """A trait's argument as the prover's names have it."""
+    return "".join(word[0].upper() + word[1:] for word in re.findall(r"\w+", argument.replace("()", "Unit")))
+
+
 def in_text(text):
     """The functions of a source file."""
-    at, name, head, start = 0, None, 0, None
+    at, name, head, start, within, indent = 0, None, 0, None, "", ""
     for line in text.split("\n"):
-        found = re.match(r"(?:pub )?(?:extern \"C\" )?fn (\w+)", line)
+        block = IMPL.match(line)
+        if block:
+            within, indent = f"{block[3]}{block[1] or ''}{spelled(block[2] or '')}::", "    "
+        elif line == "}" and within:
+            within, indent = "", ""
+        found = re.match(rf"{indent}(?:pub )?(?:extern \"C\" )?fn (\w+)", line)
         if found:
-            name, head, start = found[1], at, None
-        if name and start is None and re.match(r"\{$|\S.* \{$", line):
+            name, head, start = within + found[1], at, None
+        if name and start is None and re.match(rf"{indent}(?:\{{$|\S.* \{{$)", line):
             start = at + len(line)
-        elif name and line == "}":
+        elif name and line == indent + "}":
             yield Function(name, text[head:start], start, at)
             name = None
         at += len(line) + 1
@@ -57,7 +72,8 @@ def stands_on(crate):
     """For each function of a crate, by its bare name, those of the crate that a call of it runs: itself, those that its body calls, and so on."""
     runs = {}
     for text, function in of_crate(crate):
-        runs.setdefault(function.name, {function.name}).update(re.findall(r"\b(\w+)\(", text[function.start : function.end]))
+        name = function.name.split("::")[-1]
+        runs.setdefault(name, {name}).update(re.findall(r"\b(\w+)(?:::<[^()]*>)?\(", text[function.start : function.end]))
     for _ in runs:
         runs = {name: called.union(*(runs.get(callee, set()) for callee in called)) for name, called in runs.items()}
     return runs
@@ -77,7 +93,7 @@ def public(crate, faults):
         own = re.match(r"pub (?:extern \"C\" )?fn (\w+)", line)
         if own:
             found.add(own[1])
-        elif re.match(r"impl\b|pub (?!struct |enum |const [A-Z]|[a-z]+: )", line):
+        elif re.match(r"pub (?!struct |enum |const [A-Z]|[a-z]+: )", line):
             faults.append(f"{root}: not understood: {line.strip()}")
     for name in found - {function.name for _, function in of_crate(crate)}:
         faults.append(f"{root}: {name} is handed on, and no function has that name")

@@ -68,7 +68,7 @@ FILES = [
 # What a wrong program says of itself: its crate, the function that it changes, the requirements, what fails; and whether that holds.
 SAID = [
     ("reach", "search", ["S-4.5"], "mark_reached", True),
-    ("reach", "search", [], "mark_reached – as `mark_64` is called", True),
+    ("reach", "search", [], "mark_reached – as `mark_in` is called", True),
     ("table", None, [], "src/faults: limit; find", True),
     ("writer", "rows::step_lines", [], "write; text: example_orders", True),
     ("reach", "search", ["S-4.99"], "mark_reached", False),

@@ -7,7 +7,8 @@ ghost use Rattle.std.specs.Prelude.{◌≡◌, length};
 
 use std::rt::Files;
 
-// Prints the list; if that fails, says so on standard error. The exit status is 0 then too, as of every list.
+// Prints the list; if that fails, says so on standard error. The exit status is 0 then too, as of every list. The program `sequencer` has a like
+// function: no contract can say what is printed, so one that both call would promise nothing.
 fn print(rt: &(impl Print + Eprint), list: &[u8]) {
     if let Err(e) = rt.write_all(list) {
         let _ = eprintln!(rt; "clashes: the list could not be written: {e}");

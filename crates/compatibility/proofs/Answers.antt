@@ -17,7 +17,7 @@ use Rattle.search.specs.Ranks.{encoded}
 use Rattle.search.specs.declared.Question.{Question}
 use Rattle.search.specs.Search.{pair_ranks, ranked_pairs, pair_rounds, flagged}
 use Rattle.search.proofs.Meaning.{ranked-all, rounds-all, flags-are, verdict-is}
-use Rattle.compatibility.specs.declared.Compatibility.TheVariants as compatibility
+use Rattle.compatibility.specs.declared.Compatibility.{Compatibility}
 use Rattle.compatibility.specs.Contract.{compatibility_question, decided_of}
 use Rattle.compatibility.proofs.Laws.{ranks-are}
 
@@ -78,5 +78,5 @@ module _ (p q : Table) (g : Question) (ranks ranks' flags flags' : List ℕ) (r 
   pub decide_ranks : ranks' ≡ encoded (pair_count p q) (incompatibility (automaton p) (automaton q) 32)
   decide_ranks = ranked ∙ ranked_alone p q (length flags) r g asked ranks long ∙ ap (encoded (pair_count p q)) (ranks-are p q)
 
-  pub decide_reply : (b : Bool) (c : ℕ) → c ≡ pair_rounds g p q (length ranks) → b ≡ eqb (get_or flags' (start p q) 0) 1 → compatibility.Decided b c ≡ decided_of p q
-  decide_reply b c counted told = ap₂ compatibility.Decided (decide_verdict (start p q) b refl told) (decide_rounds c counted)
+  pub decide_reply : (b : Bool) (c : ℕ) → c ≡ pair_rounds g p q (length ranks) → b ≡ eqb (get_or flags' (start p q) 0) 1 → ◌≡◌ {A = Compatibility} (record { compatible = b; rounds = c }) (decided_of p q)
+  decide_reply b c counted told = ap₂ (λ v n. record { compatible = v; rounds = n }) (decide_verdict (start p q) b refl told) (decide_rounds c counted)

@@ -13,7 +13,8 @@ use Rattle.search.specs.Search.{ranked_pairs, pair_rounds, flagged}
 use Rattle.product.specs.Kept.{kept_filled}
 use Rattle.compatibility.specs.Contract.{compatibility_question}
 use Rattle.compatibility.proofs.Answers.{decide_verdict, decide_rounds, decide_ranks}
-use Rattle.composition.specs.declared.Composition.TheVariants as composed
+use Rattle.composition.specs.declared.Composition.{Composition}
+use Rattle.composition.specs.Contract.{composed_of}
 use Rattle.composition.proofs.Cells.{composition-cells}
 
 module _ (p q : Table) (g : Question) (ranks ranks' cells flags flags' : List ℕ) (r : Ready p q (length flags)) (long : length ranks ≡ length flags)
@@ -21,7 +22,7 @@ module _ (p q : Table) (g : Question) (ranks ranks' cells flags flags' : List �
     (ranked : ranks' ≡ ranked_pairs g p q ranks) (written : flags' ≡ flagged ranks' flags) where
   pub join_reply : (h : Automaton) (b : Bool) (c : ℕ) → c ≡ pair_rounds g p q (length ranks) → h ≡ product_header p.header q.header
       → b ≡ eqb (get_or flags' h.initial 0) 1
-      → composed.Decided b h c ≡ composed.Decided (composition p q).compatible (composition p q).header (composition p q).rounds
+      → ◌≡◌ {A = Composition} (record { compatible = b; header = h; rounds = c }) (composed_of p q)
   unfolding composition
   join_reply h b c counted headed told =
       rw (decide_verdict p q g ranks ranks' flags flags' r long asked ranked written h.initial b (ap (λ x. x.initial) headed) told, decide_rounds p q g ranks ranks' flags flags' r long asked ranked written c counted, headed) refl

@@ -58,15 +58,12 @@ puts_then d at s t r r' b b' w v =
       d_after = v.d_after ∙ rw (w.d_after, w.value) (stored-after d at s t);
     }
 
--- ---- `copy`
+-- ---- a copy byte by byte
 
 pub copied_next : (d₀ s d : List ℕ) (at i : ℕ) → i < length s → stored d (at + i) (drop i s) ≡ stored d₀ at s
     → stored (set d (at + i) (get_or s i 0)) (at + (i + 1)) (drop (i + 1) s) ≡ stored d₀ at s
 unfolding stored
 copied_next d₀ s d at i h e = rw (add-one i, add-suc at i) (rw (drop-cons s i 0 h) at e)
-
-pub copied_none : (d s : List ℕ) (at : ℕ) → stored d (at + 0) (drop 0 s) ≡ stored d at s
-copied_none d s at = ap (λ (k : ℕ). stored d k s) (omega arith)
 
 pub copied_all : (d₀ s d : List ℕ) (at i : ℕ) → length s ≤ i → stored d (at + i) (drop i s) ≡ stored d₀ at s → d ≡ stored d₀ at s
 unfolding stored
@@ -79,17 +76,15 @@ module _ (d : List ℕ) (at : ℕ) (s : List ℕ) where
   unfolding after
   put_beyond h = record { value = omega arith; d_after = sym (stored_beyond d at s (omega arith)) }
 
-  pub put_cut : at ≤ length d → length d - at < length s → (b : List ℕ) → b ≡ stored d at (take (length d - at - 0) s) → Puts d at s (length b + 1) b
+  pub put_cut : at ≤ length d → length d - at < length s → (b : List ℕ) → b ≡ stored d at (take (length d - at) s) → Puts d at s (length b + 1) b
   unfolding after
   put_cut h k b e =
-      let z : length d - at - 0 ≡ length d - at = omega arith in
-      let f : b ≡ stored d at (take (length d - at) s) = rw z at e in
       let n : length (take (length d - at) s) ≡ length d - at = length-take-le _ s (omega arith) in
       let m : length (stored d at (take (length d - at) s)) ≡ length d = length-stored d at _ in
       record {
-        value = omega (arith, ap length f);
+        value = omega (arith, ap length e);
         d_after =
-            f ∙ sym (
+            e ∙ sym (
             ap (stored d at) (sym (take-append-drop (length d - at) s)) ∙ stored-append d at (take (length d - at) s) (drop (length d - at) s)
             ∙ stored_beyond _ _ (drop (length d - at) s) (omega arith));
       }

@@ -5,13 +5,13 @@ use Prim.Native.Nat.{ℕ, zero, suc, ◌+◌, ◌-◌, ◌/◌, ◌%◌, ◌≤�
 use native.Mathlib.Decide.{dec_lt}
 use native.Mathlib.Numerals.{add-one}
 use native.Mathlib.Omega.{arith}
-use lib.ListN.{length, take, drop, set, length-append, length-set}
-use lib.Seq.{drop-cons, drop-length, drop-set-lt, get_or-set_same, take-append_seam}
+use lib.ListN.{length, drop, set, length-append, length-set}
+use lib.Seq.{drop-cons, drop-length, drop-set-lt, get_or-set_same}
 use borrow.Author.Tests.{lt-ltb, le-ltb}
 use borrow.Rule.Slice.PartMut.{put_mid}
 use Rattle.text.specs.Writing.{digits_of, decimal}
 use Rattle.emit.specs.Buffer.{stored}
-use Rattle.emit.proofs.Buffer.{Puts, stored-lent, stored-ended}
+use Rattle.emit.proofs.Buffer.{stored-lent, stored-ended}
 
 one-digit : (k n : ℕ) → n < 10 → digits_of k n ≡ (48 + n % 10) ∷ []
 unfolding digits_of
@@ -122,17 +122,9 @@ module _ (n : ℕ) (d : List ℕ) (left : ℕ) where
             (sym (append_assoc (ending j (left / 10)) ((48 + left % 10) ∷ []) (drop (suc j) d)) ∙ k.whole);
       }
 
-  pub digits-all : (i : ℕ) → Digits n d left i → i ≤ 0 → d ≡ decimal n
-  unfolding ending
-  digits-all i k h = let z : i ≡ 0 = omega arith in rw z at k.whole
-
--- ---- `number` and `number_within`
+-- ---- `number_within`
 
 module _ (n w : ℕ) (wide : w ≡ length (decimal n)) (ys : List ℕ) (is : ys ≡ decimal n) (d : List ℕ) (at end : ℕ) where
-  -- The digits are put out of the bytes that they stand in.
-  pub number_put : (zs : List ℕ) (r : ℕ) (b : List ℕ) → Puts d at (take (w - 0) (ys ++ zs) ++ end ∷ []) r b → Puts d at (decimal n ++ end ∷ []) r b
-  number_put zs r b p = let z : w - 0 ≡ length (decimal n) = omega arith in rw (z, is, take-append_seam (decimal n) zs) at p
-
   -- The digits stand in a part of the buffer that was lent.
   pub number-lent : at + w ≤ length d → set (put_mid at (at + w - at) d ys) (at + w) end ≡ stored d at (decimal n ++ end ∷ [])
   number-lent h =

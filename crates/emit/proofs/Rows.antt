@@ -1,13 +1,9 @@
 -- Lines made of their fields.
 use mathlib.Core.Path.{◌≡◌, sym, ap, ◌∙◌}
-use mathlib.Core.Bool.{false}
 use mathlib.Core.List.{List, [], ◌∷◌, ◌++◌, append_assoc}
-use Prim.Native.Nat.{ℕ, ◌+◌, ◌-◌, ◌≤◌, ◌<◌}
-use native.Mathlib.Decide.{dec_le}
+use Prim.Native.Nat.{ℕ, ◌+◌, ◌≤◌, ◌<◌}
 use native.Mathlib.Omega.{arith}
-use lib.Dec.{leb}
-use lib.ListN.{length, take, length-append, length-take}
-use borrow.Author.Tests.{le-leb, lt-leb}
+use lib.ListN.{length, length-append}
 use Rattle.text.specs.declared.Role.{Role}
 use Rattle.text.specs.declared.Role.TheVariants.{Input, Output}
 use Rattle.text.specs.Lines.{table_word, role_word, step_word}
@@ -42,14 +38,9 @@ pub line_four : (d : List ℕ) (at : ℕ) (f g h i : List ℕ) (r₁ r₂ r₃ r
 line_four d at f g h i r₁ r₂ r₃ r₄ b₁ b₂ b₃ b₄ p q v w =
     line-more d at f g (h ∷ i ∷ []) r₁ r₄ b₁ b₄ p (line-more b₁ r₁ g h (i ∷ []) r₂ r₄ b₂ b₄ q (line-two b₂ r₂ h i r₃ r₄ b₃ b₄ v w))
 
-pub word-within : (role : Role) (n : ℕ) (word : List ℕ) → n ≡ length (role_word role) → take n word ≡ role_word role → n ≤ length word
-word-within role n word e f = omega (arith, e, ap length f, length-take n word)
-
--- The word of a role is put out of the bytes that it stands in.
-pub signal_put : (role : Role) (d : List ℕ) (at : ℕ) (name : List ℕ) (r r' : ℕ) (b b' word : List ℕ) (n : ℕ) → take n word ≡ role_word role
-    → Puts d at (take (n - 0) word ++ 9 ∷ []) r b → Puts b r (name ++ 10 ∷ []) r' b' → Puts d at (signal_text role name) r' b'
-signal_put role d at name r r' b b' word n e p q =
-    let z : n - 0 ≡ n = omega arith in line-two d at (role_word role) name r r' b b' (rw (z, e) at p) q
+pub signal_put : (role : Role) (d : List ℕ) (at : ℕ) (name : List ℕ) (r r' : ℕ) (b b' word : List ℕ) → word ≡ role_word role
+    → Puts d at (word ++ 9 ∷ []) r b → Puts b r (name ++ 10 ∷ []) r' b' → Puts d at (signal_text role name) r' b'
+signal_put role d at name r r' b b' word e p q = line-two d at (role_word role) name r r' b b' (rw e at p) q
 
 -- ---- how long the lines are
 
@@ -86,21 +77,6 @@ step-long from name to =
       line-size name (decimal to) [],
       line-end (decimal to),
     )
-
--- ---- room for the line of a step
-
-module _ (bytes at name : ℕ) where
-  pub room-none : bytes < at → false ≡ leb (at + name + 18) bytes
-  room-none h = sym (lt-leb (at + name + 18) bytes (omega arith))
-
-  pub room_little : bytes - at < 18 → false ≡ leb (at + name + 18) bytes
-  room_little h = sym (lt-leb (at + name + 18) bytes (omega arith))
-
-  pub room-asked : at ≤ bytes → 18 ≤ bytes - at → leb name (bytes - at - 18) ≡ leb (at + name + 18) bytes
-  room-asked h k = elim (dec_le name (bytes - at - 18)) [
-    | yes l ↦ le-leb name (bytes - at - 18) l ∙ sym (le-leb (at + name + 18) bytes (omega arith))
-    | no g ↦ lt-leb name (bytes - at - 18) (omega arith) ∙ sym (lt-leb (at + name + 18) bytes (omega arith))
-  ]
 
 -- ---- the fields of a step, where there is room
 

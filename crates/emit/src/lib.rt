@@ -3,7 +3,7 @@
 // those before it had room.
 #![tactic(auto)]
 
-ghost use Rattle.std.specs.Prelude.{◌≡◌, [], ◌∷◌, ◌++◌, ◌+◌, ◌%◌, ◌≤◌, ◌<◌, leb, length, take};
+ghost use Rattle.std.specs.Prelude.{◌≡◌, [], ◌∷◌, ◌++◌, ◌+◌, ◌%◌, ◌≤◌, ◌<◌, leb, length};
 ghost use Rattle.text.specs.Lines.{role_word};
 ghost use Rattle.text.specs.Writing.{decimal};
 ghost use Rattle.emit.specs.Buffer.{after, stored};
@@ -16,9 +16,7 @@ fn copy(d: &mut [u8], at: usize, s: &[u8])
     requires { at + length s.now ≤ length d.old }
     ensures { d.new ≡ stored d.old at s.now }
 {
-    for i in 0..s.len() {
-        d[at + i] = s[i];
-    }
+    d[at..at + s.len()].copy_from_slice(s);
 }
 
 // Puts the bytes of s.
@@ -31,7 +29,7 @@ pub fn put(d: &mut [u8], at: usize, s: &[u8]) -> usize
     }
     let room = d.len() - at;
     if room < s.len() {
-        copy(d, at, &s[0..room]);
+        copy(d, at, &s[..room]);
         return d.len() + 1;
     }
     copy(d, at, s);
@@ -44,34 +42,27 @@ pub fn field(d: &mut [u8], at: usize, s: &[u8], end: u8) -> usize
     ensures d_after { d.new ≡ stored d.old at (s.now ++ end ∷ []) }
 {
     let i = put(d, at, s);
-    let last = [end];
-    put(d, i, &last)
+    put(d, i, &[end])
 }
 
 // Gives the last digit of a number, as a byte.
 fn digit(n: usize) -> u8
     ensures { result ≡ 48 + n % 10 }
 {
-    48 + (n % 10) as u8
+    b'0' + (n % 10) as u8
 }
 
 // Counts the digits that `number` puts: five at most.
 pub fn width(n: usize) -> usize
     ensures { result ≡ length (decimal n) }
 {
-    if n < 10 {
-        return 1;
+    match n {
+        0..=9 => 1,
+        10..=99 => 2,
+        100..=999 => 3,
+        1000..=9999 => 4,
+        _ => 5,
     }
-    if n < 100 {
-        return 2;
-    }
-    if n < 1000 {
-        return 3;
-    }
-    if n < 10000 {
-        return 4;
-    }
-    5
 }
 
 // Writes the digits of a number into as many bytes, last digit first.
@@ -80,11 +71,9 @@ fn digits(d: &mut [u8], n: usize)
     ensures { d.new ≡ decimal n }
 {
     let mut left = n;
-    let mut i = d.len();
-    while 0 < i {
-        i -= 1;
+    for i in (0..d.len()).rev() {
         d[i] = digit(left);
-        left = left / 10;
+        left /= 10;
     }
 }
 
@@ -95,8 +84,8 @@ pub fn number(d: &mut [u8], at: usize, n: usize, end: u8) -> usize
 {
     let mut five = [0u8; 5];
     let w = width(n);
-    digits(&mut five[0..w], n);
-    field(d, at, &five[0..w], end)
+    digits(&mut five[..w], n);
+    field(d, at, &five[..w], end)
 }
 
 // Puts the `table` line.
@@ -104,33 +93,19 @@ pub fn table_line(d: &mut [u8], at: usize, name: &[u8], states: usize, initial: 
     ensures value { result ≡ after (length d.old) at (table_text name.now states initial) }
     ensures d_after { d.new ≡ stored d.old at (table_text name.now states initial) }
 {
-    let i = field(d, at, b"table", 9);
-    let j = field(d, i, name, 9);
-    let k = number(d, j, states, 9);
-    number(d, k, initial, 10)
-}
-
-// Word of a role, as the first `length` of the bytes.
-#[derive(Clone, Copy)]
-struct Word {
-    bytes: [u8; 3],
-    length: usize,
+    let i = field(d, at, b"table", b'\t');
+    let j = field(d, i, name, b'\t');
+    let k = number(d, j, states, b'\t');
+    number(d, k, initial, b'\n')
 }
 
 // Gives the word of a role.
-fn role_word(role: Role) -> Word
-    ensures length_value { result.length ≡ length (role_word role) }
-    ensures bytes_value { take result.length result.bytes ≡ role_word role }
+fn role_word(role: Role) -> &'static [u8]
+    ensures { result.now ≡ role_word role }
 {
     match role {
-        Role::Input => Word {
-            bytes: [b'i', b'n', 0],
-            length: 2,
-        },
-        Role::Output => Word {
-            bytes: [b'o', b'u', b't'],
-            length: 3,
-        },
+        Role::Input => b"in",
+        Role::Output => b"out",
     }
 }
 
@@ -138,8 +113,7 @@ fn role_word(role: Role) -> Word
 pub fn role_width(role: Role) -> usize
     ensures { result ≡ length (role_word role) }
 {
-    let word = role_word(role);
-    word.length
+    role_word(role).len()
 }
 
 // Puts the line that declares a signal in a role.
@@ -150,11 +124,8 @@ pub fn signal_line(d: &mut [u8], at: usize, role: Role, name: &[u8]) -> usize
     if d.len() < at {
         return at;
     }
-    let word = role_word(role);
-    let bytes = word.bytes;
-    let n = word.length;
-    let i = field(d, at, &bytes[0..n], 9);
-    field(d, i, name, 10)
+    let i = field(d, at, role_word(role), b'\t');
+    field(d, i, name, b'\n')
 }
 
 // Puts a field for which there is room, and the byte that ends it.
@@ -187,24 +158,17 @@ fn step_within(d: &mut [u8], at: usize, from: usize, name: &[u8], to: usize) -> 
     ensures value { result ≡ after (length d.old) at (step_text from name.now to) }
     ensures d_after { d.new ≡ stored d.old at (step_text from name.now to) }
 {
-    let i = field_within(d, at, b"step", 9);
-    let j = number_within(d, i, from, 9);
-    let k = field_within(d, j, name, 9);
-    number_within(d, k, to, 10)
+    let i = field_within(d, at, b"step", b'\t');
+    let j = number_within(d, i, from, b'\t');
+    let k = field_within(d, j, name, b'\t');
+    number_within(d, k, to, b'\n')
 }
 
 // Tells whether a buffer of so many bytes has room, from the place `at` on, for the line of a step: its name and at most 18 other bytes.
 fn has_room(bytes: usize, at: usize, name: usize) -> bool
     ensures { result ≡ leb (at + name + 18) bytes }
 {
-    if bytes < at {
-        return false;
-    }
-    let room = bytes - at;
-    if room < 18 {
-        return false;
-    }
-    name <= room - 18
+    at <= bytes && 18 <= bytes - at && name <= bytes - at - 18
 }
 
 // Puts the line of a step. Nearly all lines of a text are steps, so it asks for room once and not field by field, and stops at once past the end.
@@ -218,8 +182,8 @@ pub fn step_line(d: &mut [u8], at: usize, from: usize, name: &[u8], to: usize) -
     if d.len() < at {
         return at;
     }
-    let i = field(d, at, b"step", 9);
-    let j = number(d, i, from, 9);
-    let k = field(d, j, name, 9);
-    number(d, k, to, 10)
+    let i = field(d, at, b"step", b'\t');
+    let j = number(d, i, from, b'\t');
+    let k = field(d, j, name, b'\t');
+    number(d, k, to, b'\n')
 }

@@ -1,27 +1,20 @@
 // Reads a file into a lent buffer.
 #![tactic(auto)]
 
-ghost use Rattle.std.specs.Prelude.{◌≡◌, ◌≤◌, min, length, IfSome};
-ghost use Rattle.files.specs.Reading.{taken, Reads};
+ghost use Rattle.std.specs.Prelude.{◌≡◌, ◌≤◌, length, IfSome};
+ghost use Rattle.files.specs.Reading.{Reads};
 
 use std::io::{ErrorKind, Read};
 use std::rt::Files;
 use std::{fs, str};
 
-// Result of reading a file: how many bytes were read, or that the file cannot be read.
-#[derive(Clone, Copy)]
-pub enum File {
-    Bytes(usize),
-    Unreadable,
-}
-
 // How often a read that signals interrupt is made.
 const ATTEMPTS: usize = 1000;
 
 // Reads the file from its start until the buffer is full, the file ends, or 65,537 bytes are read: one more than the longest text has, so that a
-// longer one is noticed. A file that is missing, is a folder, has a path that is no UTF-8, or fails to be read is unreadable, and leaves the buffer
-// as it was.
-pub fn read(rt: &impl Files, path: &[u8], buf: &mut [u8]) -> File
+// longer one is noticed. Returns how many bytes were read. None of a file that cannot be read, and the buffer is left as it was: one that is missing, is a
+// folder, has a path that is no UTF-8, or fails to be read.
+pub fn read(rt: &impl Files, path: &[u8], buf: &mut [u8]) -> Option<usize>
     ensures { Reads result buf.old buf.new }
 {
     let mut room = [0u8; 65537];
@@ -29,58 +22,36 @@ pub fn read(rt: &impl Files, path: &[u8], buf: &mut [u8]) -> File
 }
 
 // Reads into the room, and copies the bytes into the buffer once the whole reading has succeeded: a read can fail after others brought bytes.
-fn read_in(rt: &impl Files, path: &[u8], room: &mut [u8], buf: &mut [u8]) -> File
+fn read_in(rt: &impl Files, path: &[u8], room: &mut [u8], buf: &mut [u8]) -> Option<usize>
     requires { length room.old ≡ 65537 }
     ensures { Reads result buf.old buf.new }
 {
-    let wanted = lesser(room.len(), buf.len());
-    let file = fetch(rt, path, &mut room[0..wanted]);
-    let n = taken(file);
+    let wanted = room.len().min(buf.len());
+    let read = fetch(rt, path, &mut room[0..wanted]);
+    let n = read.unwrap_or(0);
     emit::put(buf, 0, &room[0..n]);
-    file
-}
-
-fn lesser(a: usize, b: usize) -> usize
-    ensures { result ≡ min a b }
-{
-    if a < b { a } else { b }
-}
-
-// Counts the bytes to copy: none of a file that cannot be read.
-fn taken(file: File) -> usize
-    ensures { result ≡ taken file }
-{
-    match file {
-        File::Bytes(n) => n,
-        File::Unreadable => 0,
-    }
+    read
 }
 
 // Opens the file and fills the room from it. The library takes a path as text, so one that is not UTF-8 cannot be opened.
-fn fetch(rt: &impl Files, path: &[u8], room: &mut [u8]) -> File
-    ensures { taken result ≤ length room.new }
+fn fetch(rt: &impl Files, path: &[u8], room: &mut [u8]) -> Option<usize>
+    ensures { IfSome result (λ n. n ≤ length room.new) }
 {
-    let Ok(name) = str::from_utf8(path) else {
-        return File::Unreadable;
-    };
-    let Ok(mut file) = fs::open(rt, name) else {
-        return File::Unreadable;
-    };
+    let name = str::from_utf8(path).ok()?;
+    let mut file = fs::open(rt, name).ok()?;
     fill(&mut file, room)
 }
 
 // Each round asks for all that is left of the room. Of full room nothing is left, and that round is the last; so a folder is noticed
 // even where there is no room.
-fn fill(file: &mut impl Read, room: &mut [u8]) -> File
-    ensures { taken result ≤ length room.new }
+fn fill(file: &mut impl Read, room: &mut [u8]) -> Option<usize>
+    ensures { IfSome result (λ n. n ≤ length room.new) }
 {
     let mut done: usize = 0;
     loop {
-        let Some(n) = attempt(file, &mut room[done..]) else {
-            return File::Unreadable;
-        };
+        let n = attempt(file, &mut room[done..])?;
         if n == 0 {
-            return File::Bytes(done);
+            return Some(done);
         }
         done += n;
     }

@@ -1,33 +1,18 @@
 -- The one reply record, from the library's replies: every field in every case.
-use Rattle.std.specs.Prelude.{ℕ, Bool, true, false, List, length}
+use Rattle.std.specs.Prelude.{ℕ, Bool, true, false, List, length, Option, Some, None, Result, Ok, Err}
 use Rattle.theory.specs.declared.Automaton.{Automaton}
 use Rattle.theory.specs.declared.Refusal.{Refusal}
-use Rattle.theory.specs.declared.Checked.{Checked}
-use Rattle.theory.specs.declared.Checked.TheVariants as checks
 use Rattle.theory.specs.Table.{header}
 use Rattle.table.specs.declared.Status.{Status}
 use Rattle.table.specs.Statuses.{status_nowhere, status_of, accepted_status}
-use Rattle.table.specs.declared.Mirrored.{Mirrored}
-use Rattle.table.specs.declared.Mirrored.TheVariants as mirror
-use Rattle.table.specs.declared.Followed.{Followed}
-use Rattle.table.specs.declared.Followed.TheVariants as follow
-use Rattle.composition.specs.declared.Built.{Built}
-use Rattle.composition.specs.declared.Built.TheVariants as product
 use Rattle.compatibility.specs.declared.Compatibility.{Compatibility}
-use Rattle.compatibility.specs.declared.Compatibility.TheVariants as fit
 use Rattle.composition.specs.declared.Composition.{Composition}
-use Rattle.composition.specs.declared.Composition.TheVariants as compose
-use Rattle.refinement.specs.declared.Refined.{Refined}
-use Rattle.refinement.specs.declared.Refined.TheVariants as refine
 use Rattle.synthesis.specs.declared.Synthesis.{Synthesis}
-use Rattle.synthesis.specs.declared.Synthesis.TheVariants as synthesize
-use Rattle.reader.specs.declared.Alone.{Alone}
-use Rattle.reader.specs.declared.Alone.TheVariants as alone
-use Rattle.reader.specs.declared.Together.{Together}
-use Rattle.reader.specs.declared.Together.TheVariants as together
-use Rattle.writer.specs.declared.Printed.{Printed}
-use Rattle.writer.specs.declared.Printed.TheVariants as write
+use Rattle.synthesis.specs.declared.Synthesis.TheVariants.{Controller, NoController}
+use Rattle.text.specs.declared.TextRefusal.{TextRefusal}
+use Rattle.reader.specs.declared.Tables.{Tables}
 use Rattle.harness.specs.declared.replies.Reply.{Reply}
+use Rattle.theory.specs.Rules.{rule_number}
 
 -- ---- the shapes
 
@@ -61,6 +46,9 @@ bare_reply number table line verdict value = whole_reply (status_nowhere number 
 abbrev pub refused_reply : Refusal → ℕ → Reply
 refused_reply r value = whole_reply (status_of r) 0 false value no_table no_table
 
+abbrev pub unread_reply : TextRefusal → Reply
+unread_reply r = bare_reply (rule_number r.rule) r.text r.line false 0
+
 -- One table is given back.
 abbrev pub headed_reply : Bool → ℕ → Automaton → Reply
 headed_reply verdict value a = whole_reply accepted_status 0 verdict value a no_table
@@ -71,58 +59,55 @@ both_reply a b = whole_reply accepted_status 0 false 0 a b
 
 -- ---- one table
 
-abbrev pub judged : Checked → Reply
-judged checks.Accepted = bare_reply 0 0 0 false 0
-judged (checks.Refused r) = refused_reply r 0
+abbrev pub judged : Result (Unit {0}) Refusal → Reply
+judged (Ok u) = bare_reply 0 0 0 false 0
+judged (Err r) = refused_reply r 0
 
-abbrev pub mirrored : Mirrored → Reply
-mirrored (mirror.Mirror h) = headed_reply false 0 h
-mirrored (mirror.Refused r) = refused_reply r 0
+-- A call that makes a table: mirror and product.
+abbrev pub made : Result Automaton Refusal → Reply
+made (Ok h) = headed_reply false 0 h
+made (Err r) = refused_reply r 0
 
 -- Where the monitor did not move, or the call is refused, the state is the one that was given.
-abbrev pub followed : ℕ → Followed → Reply
-followed state (follow.Moved to) = bare_reply 0 0 0 true to
-followed state follow.NotNow = bare_reply 0 0 0 false state
-followed state (follow.Refused r) = refused_reply r state
+abbrev pub followed : ℕ → Result (Option ℕ) Refusal → Reply
+followed state (Ok (Some to)) = bare_reply 0 0 0 true to
+followed state (Ok None) = bare_reply 0 0 0 false state
+followed state (Err r) = refused_reply r state
 
 -- ---- two tables
 
-abbrev pub multiplied : Built → Reply
-multiplied (product.Product h) = headed_reply false 0 h
-multiplied (product.Refused r) = refused_reply r 0
+abbrev pub fitted : Result Compatibility Refusal → Reply
+fitted (Ok c) = bare_reply 0 0 0 c.compatible c.rounds
+fitted (Err r) = refused_reply r 0
 
-abbrev pub fitted : Compatibility → Reply
-fitted (fit.Decided verdict rounds) = bare_reply 0 0 0 verdict rounds
-fitted (fit.Refused r) = refused_reply r 0
+abbrev pub composed : Result Composition Refusal → Reply
+composed (Ok c) = headed_reply c.compatible c.rounds c.header
+composed (Err r) = refused_reply r 0
 
-abbrev pub composed : Composition → Reply
-composed (compose.Decided verdict h rounds) = headed_reply verdict rounds h
-composed (compose.Refused r) = refused_reply r 0
+abbrev pub refined : Result Bool Refusal → Reply
+refined (Ok verdict) = bare_reply 0 0 0 verdict 0
+refined (Err r) = refused_reply r 0
 
-abbrev pub refined : Refined → Reply
-refined (refine.Decided verdict) = bare_reply 0 0 0 verdict 0
-refined (refine.Refused r) = refused_reply r 0
-
-abbrev pub synthesized : Synthesis → Reply
-synthesized (synthesize.Controller h rounds) = headed_reply true rounds h
-synthesized (synthesize.NoController h rounds) = headed_reply false rounds h
-synthesized (synthesize.Refused r) = refused_reply r 0
+abbrev pub synthesized : Result Synthesis Refusal → Reply
+synthesized (Ok (Controller h rounds)) = headed_reply true rounds h
+synthesized (Ok (NoController h rounds)) = headed_reply false rounds h
+synthesized (Err r) = refused_reply r 0
 
 -- ---- table text
 
-abbrev pub alone_read : Alone → Reply
-alone_read (alone.Table h) = headed_reply false 0 h
-alone_read (alone.Refused r) = bare_reply r.number r.text r.line false 0
+abbrev pub alone_read : Result Automaton TextRefusal → Reply
+alone_read (Ok h) = headed_reply false 0 h
+alone_read (Err r) = unread_reply r
 
 -- The component's table is the first, the specification's the second.
-abbrev pub together_read : Together → Reply
-together_read (together.Tables m p) = both_reply m p
-together_read (together.Refused r) = bare_reply r.number r.text r.line false 0
+abbrev pub together_read : Result Tables TextRefusal → Reply
+together_read (Ok c) = both_reply c.component c.specification
+together_read (Err r) = unread_reply r
 
 -- A lookup: its refusal is a number only, and the name is then empty.
 abbrev pub named : ℕ → List ℕ → Reply
 named number name = bare_reply number 0 0 false (length name)
 
-abbrev pub written : Printed → Reply
-written (write.Length n) = bare_reply 0 0 0 false n
-written (write.Refused r) = refused_reply r 0
+abbrev pub written : Result ℕ Refusal → Reply
+written (Ok n) = bare_reply 0 0 0 false n
+written (Err r) = refused_reply r 0

@@ -6,7 +6,7 @@ ghost use Rattle.table.specs.Contract.{mirror_reply, follow_reply};
 ghost use Rattle.reach.specs.Marks.{reached_marks};
 ghost use Rattle.reach.specs.Ends.{ends_in};
 ghost use Rattle.table.specs.StepCounts.{steps_in};
-ghost use Rattle.harness.specs.Contract.{judged, mirrored, followed};
+ghost use Rattle.harness.specs.Contract.{judged, made, followed};
 ghost use Rattle.harness.specs.Tables.{table_of};
 
 use crate::replies;
@@ -24,7 +24,7 @@ pub extern "C" fn harness_judge(
     ensures { result ≡ judged (first (table_checks 1 (table_of states initial inputs outputs cells.now))) }
 {
     let a = table::header(states, initial, inputs, outputs);
-    replies::judged(table::judge(a, cells))
+    Reply::from(table::judge(a, cells))
 }
 
 // Mirrors a table: gives the header of the mirror, whose cells are those of the table.
@@ -36,10 +36,10 @@ pub extern "C" fn harness_mirror(
     outputs: u32,
     cells: &[u16],
 ) -> Reply
-    ensures { result ≡ mirrored (mirror_reply (table_of states initial inputs outputs cells.now)) }
+    ensures { result ≡ made (mirror_reply (table_of states initial inputs outputs cells.now)) }
 {
     let a = table::header(states, initial, inputs, outputs);
-    replies::mirrored(table::mirror(a, cells))
+    Reply::from(table::mirror(a, cells))
 }
 
 // Makes one step of the monitor from a state by a signal.

@@ -1,17 +1,16 @@
 // Puts the replies of all calls into one record, which the C ABI can hand back: for tests and benchmarks.
 ghost use Rattle.std.specs.Prelude.{◌≡◌};
-ghost use Rattle.harness.specs.Contract.{no_table, whole_reply, bare_reply, refused_reply, headed_reply, both_reply, judged as judgedReply, mirrored as mirrored_reply, followed as followedReply, multiplied as multipliedReply, fitted as fittedReply, composed as composedReply, refined as refinedReply, synthesized as synthesizedReply, alone_read, together_read, written as writtenReply};
+ghost use Rattle.harness.specs.Contract.{no_table, whole_reply, bare_reply, refused_reply, unread_reply, headed_reply, both_reply, judged, made, followed as followed_reply, fitted, composed, refined, synthesized, alone_read, together_read, written};
 
 use compatibility::Compatibility;
-use composition::{Built, Composition};
-use reader::{Alone, Together};
-use refinement::Refined;
+use composition::Composition;
+use reader::Tables;
 use synthesis::Synthesis;
-use table::{Followed, Mirrored, Status};
-use theory::{Automaton, Checked, Refusal};
-use writer::Printed;
+use table::Status;
+use text::TextRefusal;
+use theory::{Automaton, Refusal};
 
-// Reply of any call. A field that the call does not set is 0.
+// Reply of any call. A field that the call does not set is 0, since C has no Option and no Result.
 #[repr(C)]
 #[derive(Clone, Copy)]
 pub struct Reply {
@@ -88,7 +87,14 @@ pub fn bare(number: u32, table: u32, line: usize, verdict: bool, value: usize) -
 fn refused(r: Refusal, value: usize) -> Reply
     ensures { result ≡ refused_reply r value }
 {
-    whole(table::status_of(r), 0, false, value, none(), none())
+    whole(r.into(), 0, false, value, none(), none())
+}
+
+// Makes the reply of a refused reading.
+fn unread(r: TextRefusal) -> Reply
+    ensures { result ≡ unread_reply r }
+{
+    bare(r.rule.number(), r.text, r.line, false, 0)
 }
 
 // Makes a reply that gives back one table.
@@ -105,121 +111,122 @@ fn both(a: Automaton, b: Automaton) -> Reply
     whole(table::accepted(), 0, false, 0, a, b)
 }
 
-// Puts the reply of `table::judge` into the record.
-pub fn judged(c: Checked) -> Reply
-    ensures { result ≡ judgedReply c }
-{
-    match c {
-        Checked::Accepted => bare(0, 0, 0, false, 0),
-        Checked::Refused(r) => refused(r, 0),
-    }
-}
-
-// Puts the reply of `table::mirror` into the record.
-pub fn mirrored(c: Mirrored) -> Reply
-    ensures { result ≡ mirrored_reply c }
-{
-    match c {
-        Mirrored::Mirror(h) => headed(false, 0, h),
-        Mirrored::Refused(r) => refused(r, 0),
-    }
-}
-
 // Puts the reply of `table::follow` into the record; the value is the state after it, which is `state` if the monitor did not move.
-pub fn followed(state: usize, c: Followed) -> Reply
-    ensures { result ≡ followedReply state c }
+pub fn followed(state: usize, c: Result<Option<usize>, Refusal>) -> Reply
+    ensures { result ≡ followed_reply state c }
 {
     match c {
-        Followed::Moved(to) => bare(0, 0, 0, true, to),
-        Followed::NotNow => bare(0, 0, 0, false, state),
-        Followed::Refused(r) => refused(r, state),
+        Ok(Some(to)) => bare(0, 0, 0, true, to),
+        Ok(None) => bare(0, 0, 0, false, state),
+        Err(r) => refused(r, state),
     }
 }
 
-// Puts the reply of `composition::product` into the record.
-pub fn multiplied(c: Built) -> Reply
-    ensures { result ≡ multipliedReply c }
-{
-    match c {
-        Built::Product(h) => headed(false, 0, h),
-        Built::Refused(r) => refused(r, 0),
+// The reply of `table::judge`.
+impl From<Result<(), Refusal>> for Reply {
+    ghost from_gives = { λ c r. r ≡ judged c };
+
+    fn from(c: Result<(), Refusal>) -> Reply {
+        match c {
+            Ok(()) => bare(0, 0, 0, false, 0),
+            Err(r) => refused(r, 0),
+        }
     }
 }
 
-// Puts the reply of `compatibility::compatible` into the record; the value is the number of rounds.
-pub fn fitted(c: Compatibility) -> Reply
-    ensures { result ≡ fittedReply c }
-{
-    match c {
-        Compatibility::Decided { compatible, rounds } => bare(0, 0, 0, compatible, rounds),
-        Compatibility::Refused(r) => refused(r, 0),
+// The reply of a call that makes a table: `table::mirror` and `composition::product`.
+impl From<Result<Automaton, Refusal>> for Reply {
+    ghost from_gives = { λ c r. r ≡ made c };
+
+    fn from(c: Result<Automaton, Refusal>) -> Reply {
+        match c {
+            Ok(header) => headed(false, 0, header),
+            Err(r) => refused(r, 0),
+        }
     }
 }
 
-// Puts the reply of `composition::compose` into the record; the value is the number of rounds.
-pub fn composed(c: Composition) -> Reply
-    ensures { result ≡ composedReply c }
-{
-    match c {
-        Composition::Decided {
-            compatible,
-            header,
-            rounds,
-        } => headed(compatible, rounds, header),
-        Composition::Refused(r) => refused(r, 0),
+// The reply of `compatibility::compatible`; the value is the number of rounds.
+impl From<Result<Compatibility, Refusal>> for Reply {
+    ghost from_gives = { λ c r. r ≡ fitted c };
+
+    fn from(c: Result<Compatibility, Refusal>) -> Reply {
+        match c {
+            Ok(c) => bare(0, 0, 0, c.compatible, c.rounds),
+            Err(r) => refused(r, 0),
+        }
     }
 }
 
-// Puts the reply of `refinement::refine` into the record.
-pub fn refined(c: Refined) -> Reply
-    ensures { result ≡ refinedReply c }
-{
-    match c {
-        Refined::Decided(refines) => bare(0, 0, 0, refines, 0),
-        Refined::Refused(r) => refused(r, 0),
+// The reply of `composition::compose`; the value is the number of rounds.
+impl From<Result<Composition, Refusal>> for Reply {
+    ghost from_gives = { λ c r. r ≡ composed c };
+
+    fn from(c: Result<Composition, Refusal>) -> Reply {
+        match c {
+            Ok(c) => headed(c.compatible, c.rounds, c.header),
+            Err(r) => refused(r, 0),
+        }
     }
 }
 
-// Puts the reply of `synthesis::synthesize` into the record; the value is the number of rounds.
-pub fn synthesized(c: Synthesis) -> Reply
-    ensures { result ≡ synthesizedReply c }
-{
-    match c {
-        Synthesis::Controller { header, rounds } => headed(true, rounds, header),
-        Synthesis::NoController { header, rounds } => headed(false, rounds, header),
-        Synthesis::Refused(r) => refused(r, 0),
+// The reply of `refinement::refine`.
+impl From<Result<bool, Refusal>> for Reply {
+    ghost from_gives = { λ c r. r ≡ refined c };
+
+    fn from(c: Result<bool, Refusal>) -> Reply {
+        match c {
+            Ok(refines) => bare(0, 0, 0, refines, 0),
+            Err(r) => refused(r, 0),
+        }
     }
 }
 
-// Puts the reply to a text read alone into the record.
-pub fn read_alone(c: Alone) -> Reply
-    ensures { result ≡ alone_read c }
-{
-    match c {
-        Alone::Table(h) => headed(false, 0, h),
-        Alone::Refused(r) => bare(r.number, r.text, r.line, false, 0),
+// The reply of `synthesis::synthesize`; the value is the number of rounds.
+impl From<Result<Synthesis, Refusal>> for Reply {
+    ghost from_gives = { λ c r. r ≡ synthesized c };
+
+    fn from(c: Result<Synthesis, Refusal>) -> Reply {
+        match c {
+            Ok(Synthesis::Controller { header, rounds }) => headed(true, rounds, header),
+            Ok(Synthesis::NoController { header, rounds }) => headed(false, rounds, header),
+            Err(r) => refused(r, 0),
+        }
     }
 }
 
-// Puts the reply to two texts read together into the record.
-pub fn read_together(c: Together) -> Reply
-    ensures { result ≡ together_read c }
-{
-    match c {
-        Together::Tables {
-            component,
-            specification,
-        } => both(component, specification),
-        Together::Refused(r) => bare(r.number, r.text, r.line, false, 0),
+// The reply of `reader::read_alone`.
+impl From<Result<Automaton, TextRefusal>> for Reply {
+    ghost from_gives = { λ c r. r ≡ alone_read c };
+
+    fn from(c: Result<Automaton, TextRefusal>) -> Reply {
+        match c {
+            Ok(header) => headed(false, 0, header),
+            Err(r) => unread(r),
+        }
     }
 }
 
-// Puts the reply of `writer::write` into the record; the value is the length of the text.
-pub fn written(c: Printed) -> Reply
-    ensures { result ≡ writtenReply c }
-{
-    match c {
-        Printed::Length(n) => bare(0, 0, 0, false, n),
-        Printed::Refused(r) => refused(r, 0),
+// The reply of `reader::read_together`.
+impl From<Result<Tables, TextRefusal>> for Reply {
+    ghost from_gives = { λ c r. r ≡ together_read c };
+
+    fn from(c: Result<Tables, TextRefusal>) -> Reply {
+        match c {
+            Ok(c) => both(c.component, c.specification),
+            Err(r) => unread(r),
+        }
+    }
+}
+
+// The reply of `writer::write`; the value is the length of the text.
+impl From<Result<usize, Refusal>> for Reply {
+    ghost from_gives = { λ c r. r ≡ written c };
+
+    fn from(c: Result<usize, Refusal>) -> Reply {
+        match c {
+            Ok(length) => bare(0, 0, 0, false, length),
+            Err(r) => refused(r, 0),
+        }
     }
 }

@@ -15,6 +15,7 @@ ghost use Rattle.harness.specs.Tables.{table_of};
 
 use crate::replies;
 use crate::replies::Reply;
+use text::Spelling;
 
 // Reads a text alone; the cells of its table are in the lent buffer.
 #[unsafe(no_mangle)]
@@ -22,7 +23,7 @@ pub extern "C" fn harness_read_alone(m: &[u8], cells: &mut [u16]) -> Reply
     ensures value { result ≡ alone_read (alone_reply (read_alone Folded (length cells.old) m.now)) }
     ensures cells_after { cells.new ≡ cells_alone (length cells.old) (read_alone Folded (length cells.old) m.now) }
 {
-    replies::read_alone(reader::read_alone(m, cells))
+    Reply::from(reader::read_alone(m, Spelling::Folded, cells))
 }
 
 // Reads the texts of a module and a plan together; the cells of the tables are in the lent buffers.
@@ -37,7 +38,7 @@ pub extern "C" fn harness_read_together<'a>(
     ensures cm_after { cm.new ≡ cells_first (length cm.old) (read_both Folded (length cm.old) m.now (length cp.old) p.now) }
     ensures cp_after { cp.new ≡ cells_second (length cp.old) (read_both Folded (length cm.old) m.now (length cp.old) p.now) }
 {
-    replies::read_together(reader::read_together(m, p, cm, cp))
+    Reply::from(reader::read_together(m, p, Spelling::Folded, cm, cp))
 }
 
 // Reads a stored text alone, by document 01's rule; the cells of its table are in the lent buffer.
@@ -46,7 +47,7 @@ pub extern "C" fn harness_read_archive_alone(m: &[u8], cells: &mut [u16]) -> Rep
     ensures value { result ≡ alone_read (alone_reply (read_alone Exact (length cells.old) m.now)) }
     ensures cells_after { cells.new ≡ cells_alone (length cells.old) (read_alone Exact (length cells.old) m.now) }
 {
-    replies::read_alone(reader::read_archive_alone(m, cells))
+    Reply::from(reader::read_alone(m, Spelling::Exact, cells))
 }
 
 // Reads the stored texts of a module and a plan together, by document 01's rule; the cells of the tables are in the lent buffers.
@@ -61,7 +62,7 @@ pub extern "C" fn harness_read_archive_together<'a>(
     ensures cm_after { cm.new ≡ cells_first (length cm.old) (read_both Exact (length cm.old) m.now (length cp.old) p.now) }
     ensures cp_after { cp.new ≡ cells_second (length cp.old) (read_both Exact (length cm.old) m.now (length cp.old) p.now) }
 {
-    replies::read_together(reader::read_archive_together(m, p, cm, cp))
+    Reply::from(reader::read_together(m, p, Spelling::Exact, cm, cp))
 }
 
 // Puts a looked-up name into the lent buffer as far as there is room, and gives the number of the lookup's refusal.
@@ -80,8 +81,8 @@ pub extern "C" fn harness_name<'a>(m: &'a [u8], p: &'a [u8], signal: usize, out:
     ensures out_after { out.new ≡ stored out.old 0 (lookup Folded m.now p.now signal).name }
 {
     tell(
-        reader::name(m, p, signal),
-        reader::number(m, p, signal),
+        reader::name(m, p, Spelling::Folded, signal),
+        reader::number(m, p, Spelling::Folded, signal),
         out,
     )
 }
@@ -93,8 +94,8 @@ pub extern "C" fn harness_name_alone(m: &[u8], signal: usize, out: &mut [u8]) ->
     ensures out_after { out.new ≡ stored out.old 0 (lookup_alone Folded m.now signal).name }
 {
     tell(
-        reader::name_alone(m, signal),
-        reader::number_alone(m, signal),
+        reader::name_alone(m, Spelling::Folded, signal),
+        reader::number_alone(m, Spelling::Folded, signal),
         out,
     )
 }
@@ -111,8 +112,8 @@ pub extern "C" fn harness_archive_name<'a>(
     ensures out_after { out.new ≡ stored out.old 0 (lookup Exact m.now p.now signal).name }
 {
     tell(
-        reader::archive_name(m, p, signal),
-        reader::archive_number(m, p, signal),
+        reader::name(m, p, Spelling::Exact, signal),
+        reader::number(m, p, Spelling::Exact, signal),
         out,
     )
 }
@@ -124,8 +125,8 @@ pub extern "C" fn harness_archive_name_alone(m: &[u8], signal: usize, out: &mut 
     ensures out_after { out.new ≡ stored out.old 0 (lookup_alone Exact m.now signal).name }
 {
     tell(
-        reader::archive_name_alone(m, signal),
-        reader::archive_number_alone(m, signal),
+        reader::name_alone(m, Spelling::Exact, signal),
+        reader::number_alone(m, Spelling::Exact, signal),
         out,
     )
 }
@@ -146,7 +147,7 @@ pub extern "C" fn harness_write(
     ensures out_after { out.new ≡ writer_bytes (table_of states initial inputs outputs cells.now) name.now (texts names.now) out.old }
 {
     let a = table::header(states, initial, inputs, outputs);
-    replies::written(writer::write(a, cells, name, names, out))
+    Reply::from(writer::write(a, cells, name, names, out))
 }
 
 // Writes what the program prints for two texts into the lent buffer; returns where it ends.

@@ -4,10 +4,9 @@ ghost use Rattle.compatibility.specs.Contract.{compatibility_reply, compatibilit
 ghost use Rattle.composition.specs.Contract.{product_reply, product_cells, composition_reply, composition_cells, composition_flags};
 ghost use Rattle.refinement.specs.Contract.{refinement_reply, refinement_marks};
 ghost use Rattle.synthesis.specs.Contract.{synthesis_reply, synthesis_cells, synthesis_flags};
-ghost use Rattle.harness.specs.Contract.{multiplied, fitted, composed, refined, synthesized};
+ghost use Rattle.harness.specs.Contract.{made, fitted, composed, refined, synthesized};
 ghost use Rattle.harness.specs.Tables.{table_of};
 
-use crate::replies;
 use crate::replies::Reply;
 
 // Builds the product; its cells are in the lent buffer.
@@ -25,7 +24,7 @@ pub extern "C" fn harness_product(
     cells_b: &[u16],
     cells: &mut [u16],
 ) -> Reply
-    ensures value { result ≡ multiplied (product_reply
+    ensures value { result ≡ made (product_reply
         (table_of states_a initial_a inputs_a outputs_a cells_a.now)
         (table_of states_b initial_b inputs_b outputs_b cells_b.now)
         (length cells.old)) }
@@ -36,7 +35,7 @@ pub extern "C" fn harness_product(
 {
     let a = table::header(states_a, initial_a, inputs_a, outputs_a);
     let b = table::header(states_b, initial_b, inputs_b, outputs_b);
-    replies::multiplied(composition::product(a, cells_a, b, cells_b, cells))
+    Reply::from(composition::product(a, cells_a, b, cells_b, cells))
 }
 
 // Decides whether the tables are compatible; the flags are in the lent buffer.
@@ -65,7 +64,7 @@ pub extern "C" fn harness_fit(
 {
     let a = table::header(states_a, initial_a, inputs_a, outputs_a);
     let b = table::header(states_b, initial_b, inputs_b, outputs_b);
-    replies::fitted(compatibility::compatible(a, cells_a, b, cells_b, flags))
+    Reply::from(compatibility::compatible(a, cells_a, b, cells_b, flags))
 }
 
 // Composes the tables; cells and flags are in the lent buffers.
@@ -99,7 +98,7 @@ pub extern "C" fn harness_compose(
 {
     let a = table::header(states_a, initial_a, inputs_a, outputs_a);
     let b = table::header(states_b, initial_b, inputs_b, outputs_b);
-    replies::composed(composition::compose(a, cells_a, b, cells_b, cells, flags))
+    Reply::from(composition::compose(a, cells_a, b, cells_b, cells, flags))
 }
 
 // Decides whether the first table refines the second; the marks are in the lent buffer.
@@ -128,7 +127,7 @@ pub extern "C" fn harness_refine(
 {
     let a = table::header(states_a, initial_a, inputs_a, outputs_a);
     let b = table::header(states_b, initial_b, inputs_b, outputs_b);
-    replies::refined(refinement::refine(a, cells_a, b, cells_b, marks))
+    Reply::from(refinement::refine(a, cells_a, b, cells_b, marks))
 }
 
 // Makes the controller of a component and a specification (document 01: the sequencer of a module and a plan); cells and flags are in the lent
@@ -163,5 +162,5 @@ pub extern "C" fn harness_synthesize(
 {
     let a = table::header(states_a, initial_a, inputs_a, outputs_a);
     let b = table::header(states_b, initial_b, inputs_b, outputs_b);
-    replies::synthesized(synthesis::synthesize(a, cells_a, b, cells_b, cells, flags))
+    Reply::from(synthesis::synthesize(a, cells_a, b, cells_b, cells, flags))
 }

@@ -5,29 +5,16 @@
 ghost use Rattle.std.specs.Prelude.{◌≤◌};
 ghost use Rattle.limits.specs.Room.{Room};
 
-use compatibility::Compatibility;
-use reader::Alone;
-use table::Followed;
-use theory::{Automaton, Checked};
+use text::Spelling;
+use theory::{Automaton, Rule};
 
-// Leaves a failed write unsaid: what is missing of the output shows when it is compared.
-fn say(rt: &impl Print, what: &[u8]) {
-    let _ = rt.write_all(what);
-}
-
-fn say_number(rt: &impl Print, before: &[u8], number: u64) {
-    say(rt, before);
-    let _ = println!(rt; "{number}");
-}
-
-// A line for a call: that it was accepted, or the number of its refusal.
-fn report(rt: &impl Print, call: &[u8], number: u32) {
-    say(rt, call);
-    if number == 0 {
-        say(rt, b": accepted\n");
-        return;
-    }
-    say_number(rt, b": refused ", number as u64);
+// Prints a line for a call: that it was accepted, or the number of its refusal. Leaves a failed write unsaid: what is missing of the output shows when it
+// is compared.
+fn report(rt: &impl Print, call: &str, outcome: Result<(), Rule>) {
+    let _ = match outcome {
+        Ok(()) => println!(rt; "{call}: accepted"),
+        Err(rule) => println!(rt; "{call}: refused {}", rule.number()),
+    };
 }
 
 // An automaton that accepts signal 31 and sends signal 0.
@@ -41,88 +28,80 @@ fn counterpart(states: usize) -> Automaton {
 }
 
 // An automaton without steps, of so many cells.
-fn judge(rt: &impl Print, call: &[u8], states: usize, cells: usize)
+fn judge(rt: &impl Print, call: &str, states: usize, cells: usize)
     requires { cells ≤ 131104 }
 {
     let blank = [65535u16; 131104];
-    match table::judge(of_states(states), &blank[0..cells]) {
-        Checked::Accepted => report(rt, call, 0),
-        Checked::Refused(r) => report(rt, call, r.number),
-    }
+    let judged = table::judge(of_states(states), &blank[0..cells]);
+    report(rt, call, judged.map_err(|r| r.rule));
 }
 
 // Two automata without steps, of n and m states with the right number of cells, and so many flags.
-fn fit(rt: &impl Print, call: &[u8], n: usize, m: usize, bytes: usize)
+fn fit(rt: &impl Print, call: &str, n: usize, m: usize, bytes: usize)
     requires { Room n m bytes }
 {
     let one = [65535u16; 131072];
     let two = [65535u16; 131072];
     let mut flags = [7u8; 133120];
-    match compatibility::compatible(
+    let decided = compatibility::compatible(
         of_states(n),
         &one[0..n * 32],
         counterpart(m),
         &two[0..m * 32],
         &mut flags[0..bytes],
-    ) {
-        Compatibility::Decided { .. } => report(rt, call, 0),
-        Compatibility::Refused(r) => report(rt, call, r.number),
-    }
+    );
+    report(rt, call, decided.map(|_| ()).map_err(|r| r.rule));
 }
 
 // Follows a signal from state 0, at which signal 31 leads to state 1.
-fn follow(rt: &impl Print, call: &[u8], signal: usize) {
+fn follow(rt: &impl Print, call: &str, signal: usize) {
     let mut cells = [65535u16; 64];
     cells[31] = 1;
     match table::follow(of_states(2), &cells, 0, signal) {
-        Followed::Moved(to) => {
-            say(rt, call);
-            say_number(rt, b": moved to ", to as u64);
+        Ok(Some(to)) => {
+            let _ = println!(rt; "{call}: moved to {to}");
         }
-        Followed::NotNow => {
-            say(rt, call);
-            say(rt, b": not now\n");
+        Ok(None) => {
+            let _ = println!(rt; "{call}: not now");
         }
-        Followed::Refused(r) => report(rt, call, r.number),
+        Err(r) => report(rt, call, Err(r.rule)),
     }
 }
 
 // Reads the first bytes of a text that declares 33 signals.
-fn read(rt: &impl Print, call: &[u8], bytes: usize) {
+fn read(rt: &impl Print, call: &str, bytes: usize) {
     let text =
         b"table\tt\t1\t0\nin\ta\nin\tb\nin\tc\nin\td\nin\te\nin\tf\nin\tg\nin\th\nin\ti\nin\tj\nin\tk\nin\tl\nin\tm\nin\tn\nin\to\nin\tp\nin\tq\nin\tr\nin\ts\nin\tt\nin\tu\nin\tv\nin\tw\nin\tx\nin\ty\nin\tz\nin\t0\nin\t1\nin\t2\nin\t3\nin\t4\nin\t5\nin\t6\n";
     let mut cells = [7u16; 32];
-    match reader::read_alone(lines::before(text, bytes), &mut cells) {
-        Alone::Table(_) => report(rt, call, 0),
-        Alone::Refused(r) => report(rt, call, r.number),
-    }
+    let table = reader::read_alone(lines::before(text, bytes), Spelling::Folded, &mut cells);
+    report(rt, call, table.map(|_| ()).map_err(|r| r.rule));
 }
 
 fn main(rt: HostRuntime) {
-    judge(&rt, b"judge 4096 states", 4096, 131072);
-    judge(&rt, b"judge 4097 states", 4097, 131104);
+    judge(&rt, "judge 4096 states", 4096, 131072);
+    judge(&rt, "judge 4097 states", 4097, 131104);
     judge(
         &rt,
-        b"judge 2^59 + 1 states, 32 cells",
+        "judge 2^59 + 1 states, 32 cells",
         576460752303423489,
         32,
     );
     judge(
         &rt,
-        b"judge 2^64 - 1 states, no cell",
+        "judge 2^64 - 1 states, no cell",
         18446744073709551615,
         0,
     );
-    fit(&rt, b"fit 64 by 64", 64, 64, 4096);
-    fit(&rt, b"fit 64 by 65", 64, 65, 4160);
-    fit(&rt, b"fit 4096 by 1", 4096, 1, 4096);
-    fit(&rt, b"fit 4096 by 2", 4096, 2, 8192);
-    fit(&rt, b"fit 64 by 64, a flag short", 64, 64, 4095);
-    follow(&rt, b"follow signal 31", 31);
-    follow(&rt, b"follow signal 0", 0);
-    follow(&rt, b"follow signal 30, not declared", 30);
-    follow(&rt, b"follow signal 32", 32);
-    follow(&rt, b"follow signal 2^64 - 1", 18446744073709551615);
-    read(&rt, b"read 32 names", 172);
-    read(&rt, b"read 33 names", 177);
+    fit(&rt, "fit 64 by 64", 64, 64, 4096);
+    fit(&rt, "fit 64 by 65", 64, 65, 4160);
+    fit(&rt, "fit 4096 by 1", 4096, 1, 4096);
+    fit(&rt, "fit 4096 by 2", 4096, 2, 8192);
+    fit(&rt, "fit 64 by 64, a flag short", 64, 64, 4095);
+    follow(&rt, "follow signal 31", 31);
+    follow(&rt, "follow signal 0", 0);
+    follow(&rt, "follow signal 30, not declared", 30);
+    follow(&rt, "follow signal 32", 32);
+    follow(&rt, "follow signal 2^64 - 1", 18446744073709551615);
+    read(&rt, "read 32 names", 172);
+    read(&rt, "read 33 names", 177);
 }

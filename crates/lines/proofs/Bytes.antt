@@ -1,73 +1,80 @@
--- Laws of finding and comparing bytes and of cutting parts out. In a loop the definition on what is left from the byte i on makes up the definition on
--- the whole.
+-- Laws of finding and comparing bytes.
 use mathlib.Core.Path.{◌≡◌, refl, sym, ap, ◌∙◌}
-use mathlib.Core.Bool.{Bool, true, false, not, ◌&&◌}
+use mathlib.Core.Bool.{Bool, true, false, ◌&&◌, ◌||◌, cond}
 use mathlib.Core.List.{List, [], ◌∷◌}
-use Prim.Native.Nat.{ℕ, zero, suc, ◌+◌, ◌-◌, ◌≤◌, ◌<◌, min}
+use Prim.Native.Nat.{ℕ, zero, suc, ◌+◌, ◌-◌, ◌≤◌, ◌<◌}
 use native.Mathlib.Numerals.{add-one}
+use native.Mathlib.Decide.{dec_lt}
 use native.Mathlib.Omega.{arith}
 use lib.Bits.{bit_or}
-use lib.Dec.{eqb, leb}
-use lib.ListN.{length, take, drop, get_or, drop_of_length-le}
+use lib.Dec.{eqb, ltb}
+use lib.ListN.{length, take, drop, get_or, length-drop, drop_of_length-le}
 use lib.Seq.{drop-cons, take_all}
-use borrow.Author.Tests.{eq-eqb, ne_eqb, le-leb, lt-leb, not-false}
+use borrow.Author.Tests.{eq-eqb, ne_eqb, lt-ltb, ltb-true}
+use Rattle.std.specs.Prelude.{Option, Some, None}
+use Rattle.std.specs.List.{position, position_or_len, list_any}
+use Rattle.std.specs.Cmp.Lexicographic.{pointwise}
+use Rattle.std.proofs.lemmas.List.Recursion.{is_position_or_len}
+use Rattle.std.proofs.lemmas.Option.{cond_some, none-some}
+use Rattle.std.proofs.lemmas.Bool.{false≢true}
 use Rattle.text.specs.declared.Spelling.{Spelling}
 use Rattle.text.specs.declared.Spelling.TheVariants.{Exact, Folded}
-use Rattle.text.specs.Fields.{upto, spelled, matches}
+use Rattle.text.specs.Fields.{upto, spelled, matches, same}
 use Rattle.text.proofs.Names.{lower_bit}
-use Rattle.text.proofs.Split.{upto_le}
-use Rattle.lines.specs.Places.{place_in}
 use Rattle.lines.specs.CaseBit.{case_bit}
 
 -- What is left at i is the byte there and what is left after it.
 pub drop-step : (s : List ℕ) (i : ℕ) → i < length s → drop i s ≡ get_or s i 0 ∷ drop (i + 1) s
 drop-step s i h = rw (add-one i, drop-cons s i 0 h)
 
--- ---- find
+-- The part of s from the byte `at` on, as `&s[at..]` is cut.
+abbrev pub beyond : List ℕ → ℕ → List ℕ
+beyond s at = take (length s - at) (drop at s)
 
-module _ (b : ℕ) (s : List ℕ) (n i : ℕ) (l : n ≡ length s) (e : i + upto b (drop i s) ≡ upto b s) where
-  pub find-here : i < n → get_or s i 0 ≡ b → i ≡ upto b s
-  unfolding upto
-  find-here h k =
-      let z : upto b (drop i s) ≡ 0 = ap (upto b) (drop-step s i (omega arith)) ∙ simp (eq-eqb (get_or s i 0) b k) in
-      omega arith
+pub beyond-is : (s : List ℕ) (at : ℕ) → beyond s at ≡ drop at s
+beyond-is s at = take_all (length s - at) (drop at s) (omega (arith, length-drop at s))
 
-  pub find-on : i < n → (get_or s i 0 ≡ b → ⊥) → i + 1 + upto b (drop (i + 1) s) ≡ upto b s
-  unfolding upto
-  find-on h k =
-      let z : upto b (drop i s) ≡ suc (upto b (drop (i + 1) s)) =
-      ap (upto b) (drop-step s i (omega arith)) ∙ simp (ne_eqb (get_or s i 0) b k) in
-      omega arith
+-- ---- the first byte b
 
-  pub find_none : n ≤ i → length s ≡ upto b s
-  find_none h = omega (arith, upto_le b s)
+upto_is : (b : ℕ) (s : List ℕ) → upto b s ≡ position_or_len (λ x. eqb x b) s
+unfolding upto
+upto_is b s =
+    is_position_or_len (upto b) (λ x. eqb x b) refl (λ x t. let e : suc (upto b t) ≡ 1 + upto b t = omega arith in ap (cond (eqb x b) 0) e) s
+
+module _ (b : ℕ) (s : List ℕ) (r : Option ℕ) (f : r ≡ position (λ x. eqb x b) s) where
+  pub found : (i : ℕ) → r ≡ Some i → (i ≡ upto b s) × (i < length s)
+  found i e =
+      let c = cond_some (ltb (position_or_len (λ x. eqb x b) s) (length s)) (position_or_len (λ x. eqb x b) s) i (sym f ∙ e) in
+      let h = ltb-true (position_or_len (λ x. eqb x b) s) (length s) c.0 in
+      (omega (arith, upto_is b s, c.1), omega (arith, h, c.1))
+
+  pub not_found : r ≡ None → length s ≤ upto b s
+  not_found e = elim (dec_lt (upto b s) (length s)) [
+    | yes h ↦ absurd (none-some (upto b s) (sym e ∙ f ∙ rw (← upto_is b s, lt-ltb (upto b s) (length s) h)))
+    | no h ↦ omega arith
+  ]
+
+pub contains_some : (b : ℕ) (s : List ℕ) → true ≡ list_any (λ x. eqb x b) s → upto b s < length s
+unfolding upto
+contains_some b [] e = absurd (false≢true (sym e))
+contains_some b (x ∷ s) e = go (eqb x b) (contains_some b s) e
+  where
+    go : (c : Bool) → (true ≡ list_any (λ x. eqb x b) s → upto b s < length s) → true ≡ (c || list_any (λ x. eqb x b) s)
+        → cond c 0 (suc (upto b s)) < suc (length s)
+    go true h e = omega arith
+    go false h e = omega (arith, h e)
+
+pub contains_none : (b : ℕ) (s : List ℕ) → false ≡ list_any (λ x. eqb x b) s → length s ≤ upto b s
+unfolding upto
+contains_none b [] e = omega arith
+contains_none b (x ∷ s) e = go (eqb x b) (contains_none b s) e
+  where
+    go : (c : Bool) → (false ≡ list_any (λ x. eqb x b) s → length s ≤ upto b s) → false ≡ (c || list_any (λ x. eqb x b) s)
+        → suc (length s) ≤ cond c 0 (suc (upto b s))
+    go true h e = absurd (false≢true e)
+    go false h e = omega (arith, h e)
 
 -- ---- agree
-
-pub bit_small : (c : Spelling) (r : ℕ) → r ≡ case_bit c → r ≤ 32
-bit_small Exact r e = omega arith
-bit_small Folded r e = omega arith
-
-module _ (c : Spelling) (x : ℕ) where
-  pub spell_capital : 65 ≤ x → x ≤ 90 → (r : ℕ) → r ≡ case_bit c → x + r ≡ spelled c x
-  spell_capital h k r e = rw e (go c)
-    where
-      go : (c : Spelling) → x + case_bit c ≡ spelled c x
-      go Exact = omega arith
-      go Folded = rw (le-leb 65 x h, le-leb x 90 k)
-
-  other : (leb 65 x && leb x 90) ≡ false → x ≡ spelled c x
-  other e = go c
-    where
-      go : (c : Spelling) → x ≡ spelled c x
-      go Exact = refl
-      go Folded = rw e
-
-  pub spell_before : x < 65 → x ≡ spelled c x
-  spell_before h = other (rw (lt-leb 65 x h))
-
-  pub spell_after : 90 < x → x ≡ spelled c x
-  spell_after h = other (rw (lt-leb x 90 h, le-leb 65 x (omega arith)))
 
 module _ (c : Spelling) (x y : ℕ) where
   -- Bytes that are the same in a spelling differ in the bit at most.
@@ -78,11 +85,17 @@ module _ (c : Spelling) (x y : ℕ) where
       go Exact e = ap (λ z. bit_or z 0) e
       go Folded e = sym (lower_bit x) ∙ ap (λ z. bit_or z 32) e ∙ lower_bit y
 
-  pub agree_not : (b : ℕ) → b ≡ case_bit c → (bit_or x b ≡ bit_or y b → ⊥) → false ≡ eqb (spelled c x) (spelled c y)
-  agree_not b e d = sym (ne_eqb (spelled c x) (spelled c y) (λ q. d (rw e (same_but_bit q))))
+  pub agree_not : (b : ℕ) → b ≡ case_bit c → (bit_or x b ≡ bit_or y b → ⊥) → eqb (bit_or x b) (bit_or y b) ≡ eqb (spelled c x) (spelled c y)
+  agree_not b e d = ne_eqb (bit_or x b) (bit_or y b) d ∙ sym (ne_eqb (spelled c x) (spelled c y) (λ q. d (rw e (same_but_bit q))))
 
-  pub agree_spelled : (u v : ℕ) → u ≡ spelled c x → v ≡ spelled c y → eqb u v ≡ eqb (spelled c x) (spelled c y)
-  agree_spelled u v f g = rw (f, g)
+-- ---- equality
+
+pub same_pointwise : (s t : List ℕ) → same s t ≡ pointwise eqb s t
+unfolding matches
+same_pointwise [] [] = refl
+same_pointwise [] (y ∷ t) = refl
+same_pointwise (x ∷ s) [] = refl
+same_pointwise (x ∷ s) (y ∷ t) = ap (λ b. eqb x y && b) (same_pointwise s t)
 
 -- ---- matches
 
@@ -112,44 +125,19 @@ module _ (c : Spelling) where
   match_differ_at (x ∷ s) [] i h k d = absurd (omega arith)
 
   pub match_differ : (s t : List ℕ) (i : ℕ) → i < length s → i < length t → (r : Bool) → r ≡ eqb (spelled c (get_or s i 0)) (spelled c (get_or t i 0))
-      → not r ≡ true → false ≡ matches c s t
-  match_differ s t i h k r f d = match_differ_at s t i h k (λ e. no (sym (f ∙ eq-eqb _ _ e)) d)
-    where
-      no : {r : Bool} → true ≡ r → not r ≡ true → ⊥
-      no e d = let z : ◌≡◌ {A = ℕ} 0 1 = cc in omega arith
+      → r ≡ false → false ≡ matches c s t
+  match_differ s t i h k r f d = match_differ_at s t i h k (λ e. false≢true (sym d ∙ f ∙ eq-eqb _ _ e))
 
-  -- Two lists match from the byte i on: at their end, one byte earlier, from their start.
+  -- Two lists match from the byte i on: at their end, one byte earlier.
   module _ (s t : List ℕ) (i : ℕ) where
     pub match-end : length s ≤ i → length t ≤ i → matches c (drop i s) (drop i t) ≡ true
     unfolding matches
     match-end h k = rw (drop_of_length-le s {i = i} h, drop_of_length-le t {i = i} k)
 
     pub match-more : 0 < i → i ≤ length s → i ≤ length t → matches c (drop i s) (drop i t) ≡ true
-        → (r : Bool) → r ≡ eqb (spelled c (get_or s (i - 1) 0)) (spelled c (get_or t (i - 1) 0)) → not r ≡ false
+        → (r : Bool) → r ≡ eqb (spelled c (get_or s (i - 1) 0)) (spelled c (get_or t (i - 1) 0)) → r ≡ true
         → matches c (drop (i - 1) s) (drop (i - 1) t) ≡ true
     unfolding matches
     match-more p h k e r f d =
         let z : i - 1 + 1 ≡ i = omega arith in
-        rw (drop-step s (i - 1) (omega arith), drop-step t (i - 1) (omega arith), ← f, not-false r d, z) e
-
-    pub match-all : i ≤ 0 → matches c (drop i s) (drop i t) ≡ true → true ≡ matches c s t
-    match-all h e = let z : i ≡ 0 = omega arith in sym (rw z at e)
-
--- ---- parts
-
-pub before-all : (s : List ℕ) (at : ℕ) → length s ≤ at → s ≡ take at s
-before-all s at h = sym (take_all at s h)
-
-pub before-some : (s : List ℕ) (at : ℕ) → take (at - 0) s ≡ take at s
-before-some s at = let z : at - 0 ≡ at = omega arith in rw z
-
-pub after_none : (s r : List ℕ) (at : ℕ) → length s < at → length r ≤ 0 → r ≡ drop at s
-after_none s [] at h k = sym (drop_of_length-le s {i = at} (omega arith))
-after_none s (x ∷ r) at h k = absurd (omega arith)
-
--- A part that begins k bytes on has its place k bytes on.
-pub before-place : (place : ℕ × ℕ) → (place.0, 0 + place.1) ≡ place
-before-place place = let e : 0 + place.1 ≡ place.1 = omega arith in ap (λ o. (place.0, o)) e
-
-pub after-place : (place : ℕ × ℕ) (s : List ℕ) (at k : ℕ) → k ≡ min at (length s) → (place.0, k + place.1) ≡ place_in place s at
-after-place place s at k e = let f : k + place.1 ≡ place.1 + min at (length s) = omega arith in ap (λ o. (place.0, o)) f
+        rw (drop-step s (i - 1) (omega arith), drop-step t (i - 1) (omega arith), ← f, d, z) e

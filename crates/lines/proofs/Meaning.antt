@@ -17,22 +17,23 @@ use Rattle.lines.proofs.NameRule.{both}
 use Rattle.lines.proofs.NumberRule.{number_fits}
 use Rattle.lines.specs.Located.{after_kind, step_name, located, kind_of}
 use Rattle.lines.specs.declared.Record.TheVariants.{Table, Declaration, Step}
-use Rattle.lines.specs.declared.Parsed.{Parsed}
-use Rattle.lines.specs.declared.Parsed.TheVariants.{Fields, Refused}
+use Rattle.lines.specs.declared.Record.{Record}
 use Rattle.lines.specs.declared.Kind.{Kind}
-use Rattle.lines.specs.declared.Kind.TheVariants.{TableLine, DeclarationLine, StepLine, Unknown}
+use Rattle.lines.specs.declared.Kind.TheVariants.{TableLine, DeclarationLine, StepLine}
+use Rattle.std.specs.Prelude.{Option, Some, None, Result, Ok, Err}
 use Rattle.lines.proofs.ByKind.{on_kind, by_kind_lem}
+use Rattle.theory.specs.declared.Rule.{Rule}
 
 -- ---- the word of a declaration
 
-kind_word : (k : List ℕ) (r : Role) → kind_of k ≡ DeclarationLine r → k ≡ role_word r
+kind_word : (k : List ℕ) (r : Role) → kind_of k ≡ Some (DeclarationLine r) → k ≡ role_word r
 unfolding kind_of
 kind_word k r h =
     go (same k table_word) (same k (role_word Input)) (same k (role_word Output)) (same k step_word)
     (same-eq k (role_word Input)) (same-eq k (role_word Output)) h
   where
     go : (a b c d : Bool) → (b ≡ true → k ≡ role_word Input) → (c ≡ true → k ≡ role_word Output)
-        → cond a TableLine (cond b (DeclarationLine Input) (cond c (DeclarationLine Output) (cond d StepLine Unknown))) ≡ DeclarationLine r
+        → cond a (Some TableLine) (cond b (Some (DeclarationLine Input)) (cond c (Some (DeclarationLine Output)) (cond d (Some StepLine) None))) ≡ Some (DeclarationLine r)
         → k ≡ role_word r
     go true b c d i o q = absurd (let z : ◌≡◌ {A = ℕ} 0 1 = cc in omega arith)
     go false true c d i o q = let z : Input ≡ r = cc in i refl ∙ ap role_word z
@@ -125,11 +126,11 @@ module _ (l : List ℕ) (p : Place) where
   unfolding parse on_kind
   known = let f = split-some 9 l in rw (f.2, by_kind_lem p f.0 f.1) (go f.0 f.1 f.2 (kind_of f.0) refl)
     where
-      go : (k : List ℕ) (fs : List (List ℕ)) → split 9 l ≡ k ∷ fs → (d : Kind) → kind_of k ≡ d → Known l (on_kind p fs d)
-      go k fs e TableLine i = table-known fs
-      go k fs e (DeclarationLine r) i = declaration-known k r (kind_word k r i) fs e
-      go k fs e StepLine i = step-known k fs e
-      go k fs e Unknown i = tt
+      go : (k : List ℕ) (fs : List (List ℕ)) → split 9 l ≡ k ∷ fs → (d : Option Kind) → kind_of k ≡ d → Known l (on_kind p fs d)
+      go k fs e (Some TableLine) i = table-known fs
+      go k fs e (Some (DeclarationLine r)) i = declaration-known k r (kind_word k r i) fs e
+      go k fs e (Some StepLine) i = step-known k fs e
+      go k fs e None i = tt
 
 -- ---- what the reply says
 
@@ -152,11 +153,11 @@ pub record StepReply (p : Place) (l : List ℕ) (from start end to : ℕ) : Type
   pub to_fits : to ≤ 65535
 
 -- The entry that a reply for the line l stands for.
-entry_of : List ℕ → Parsed → Entry
-entry_of l (Fields (Table states initial)) = table states initial
-entry_of l (Fields (Declaration r)) = declaration r (drop (length (role_word r) + 1) l)
-entry_of l (Fields (Step from start end to)) = step from (take (end - start) (drop start l)) to
-entry_of l (Refused k) = refused k
+entry_of : List ℕ → Result Record Rule → Entry
+entry_of l (Ok (Table states initial)) = table states initial
+entry_of l (Ok (Declaration r)) = declaration r (drop (length (role_word r) + 1) l)
+entry_of l (Ok (Step from start end to)) = step from (take (end - start) (drop start l)) to
+entry_of l (Err k) = refused k
 
 entry-back : (l : List ℕ) (e : Entry) → Known l e → e ≡ entry_of l (located l e)
 unfolding entry_of
@@ -168,17 +169,17 @@ entry-back l (step from n to) k =
 entry-back l (refused k) h = refl
 
 module _ (p : Place) (l : List ℕ) where
-  entry-is : (r : Parsed) → located l (parse p l) ≡ r → parse p l ≡ entry_of l r
+  entry-is : (r : Result Record Rule) → located l (parse p l) ≡ r → parse p l ≡ entry_of l r
   entry-is r e = entry-back l (parse p l) (known l p) ∙ ap (entry_of l) e
 
-  pub table_reply : (states initial : ℕ) → located l (parse p l) ≡ Fields (Table states initial) → TableReply p l states initial
+  pub table_reply : (states initial : ℕ) → located l (parse p l) ≡ Ok (Table states initial) → TableReply p l states initial
   unfolding entry_of
   table_reply states initial e =
       let f : parse p l ≡ table states initial = entry-is _ e in
       let k : Known l (table states initial) = subst (Known l) f (known l p) in
       record { entry = f; states_fit = k.0; initial_fit = k.1 }
 
-  pub declaration_reply : (r : Role) → located l (parse p l) ≡ Fields (Declaration r) → DeclarationReply p l r
+  pub declaration_reply : (r : Role) → located l (parse p l) ≡ Ok (Declaration r) → DeclarationReply p l r
   unfolding entry_of
   declaration_reply r e =
       let n : List ℕ = drop (length (role_word r) + 1) l in
@@ -186,13 +187,13 @@ module _ (p : Place) (l : List ℕ) where
       let k : DeclarationAt l r n = subst (Known l) f (known l p) in
       record { entry = f; within = k.within; named = k.named }
 
-  pub step_reply : (from start end to : ℕ) → located l (parse p l) ≡ Fields (Step from start end to) → StepReply p l from start end to
+  pub step_reply : (from start end to : ℕ) → located l (parse p l) ≡ Ok (Step from start end to) → StepReply p l from start end to
   unfolding entry_of
   step_reply from start end to e =
       let n : List ℕ = take (end - start) (drop start l) in
       let f : parse p l ≡ step from n to = entry-is _ e in
       let k : StepAt l from n to = subst (Known l) f (known l p) in
-      let q : Fields (Step from (step_name l) (step_name l + length n) to) ≡ Fields (Step from start end to) = sym (ap (located l) f) ∙ e in
+      let q : Ok (Step from (step_name l) (step_name l + length n) to) ≡ Ok (Step from start end to) = sym (ap (located l) f) ∙ e in
       let a : step_name l ≡ start = cc in
       let b : step_name l + length n ≡ end = cc in
       record {
@@ -204,6 +205,6 @@ module _ (p : Place) (l : List ℕ) where
         to_fits = k.to_fits;
       }
 
-  pub refused_reply_lem : (number : ℕ) → located l (parse p l) ≡ Refused number → parse p l ≡ refused number
+  pub refused_reply_lem : (number : Rule) → located l (parse p l) ≡ Err number → parse p l ≡ refused number
   unfolding entry_of
   refused_reply_lem number e = entry-is _ e

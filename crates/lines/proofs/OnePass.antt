@@ -1,63 +1,60 @@
 -- Laws of a step line that is taken apart in one pass, and of the first line of a text.
 use mathlib.Core.Path.{◌≡◌, refl, sym, ap, ◌∙◌}
-use mathlib.Core.Bool.{Bool, true, false, not}
+use mathlib.Core.Bool.{true, false}
 use mathlib.Core.List.{List, [], ◌∷◌, ◌++◌, append_assoc}
 use Prim.Native.Nat.{ℕ, ◌+◌, ◌≤◌, ◌<◌}
 use native.Mathlib.Numerals.{add-one}
 use native.Mathlib.Omega.{arith}
 use native.Mathlib.Decide.{dec_lt}
 use lib.Dec.{eqb, ltb}
-use lib.ListN.{length, take, drop, get_or, length-append, length-take, take-append-drop}
+use lib.ListN.{length, take, drop, get_or, length-append, take-append-drop}
 use lib.Seq.{split_at, length-take-le, take-append_seam}
-use borrow.Author.Tests.{lt-ltb, le-ltb, ltb-true, eqb-true, not-false}
+use borrow.Author.Tests.{lt-ltb, le-ltb, ltb-true, eqb-true}
 use Rattle.text.specs.declared.Place.{Place}
-use Rattle.text.specs.Fields.{split, upto, matches, same, name_byte, name_ok, digit_byte, value, number_ok}
+use Rattle.text.specs.Fields.{split, upto, matches, name_byte, name_ok, digit_byte, value, number_ok}
 use Rattle.text.specs.Lines.{step, refused, step_word, takes_step, step_line, by_kind, parse}
-use Rattle.text.proofs.Names.{same-eq}
 use Rattle.text.proofs.Split.{Free, upto_le, free_cons, free-append, free_all, split-last, split_join, split-some, split-more}
-use Rattle.lines.proofs.NameRule.{both, name-bytes}
-use Rattle.lines.proofs.NumberRule.{number_digits}
+use Rattle.lines.proofs.NameRule.{both, name-bytes, name-at}
+use Rattle.lines.proofs.NumberRule.{number_digits, number_at}
+use Rattle.lines.proofs.Judging.{is_err_of}
 use Rattle.lines.proofs.Meaning.{refused_reply_lem}
 use Rattle.lines.specs.Located.{step_name, located, measured, first_line}
-use Rattle.lines.specs.OnePass.{is_at, StepFirst, step_read}
+use Rattle.lines.specs.OnePass.{is_at, step_read}
+use Rattle.lines.specs.Leading.{name_width, leading_number}
 use Rattle.lines.specs.declared.Record.{Record}
-use Rattle.lines.specs.declared.Record.TheVariants.{Step as StepRecord}
-use Rattle.lines.specs.declared.one_pass.Reading.{Reading}
-use Rattle.lines.specs.declared.one_pass.Reading.TheVariants.{Step}
+use Rattle.lines.specs.declared.Record.TheVariants.{Step}
 use Rattle.lines.specs.declared.Line.{Line}
-use Rattle.lines.specs.declared.Line.TheVariants.{Taken}
-use Rattle.lines.specs.declared.Line.TheVariants.{Refused as NoLine}
-use Rattle.lines.specs.declared.Parsed.{Parsed}
-use Rattle.lines.specs.declared.Parsed.TheVariants.{Fields, Refused}
-
--- ---- a byte
-
-module _ (s : List ℕ) (i b : ℕ) where
-  pub not_there : length s ≤ i → false ≡ is_at s i b
-  unfolding is_at
-  not_there h = rw (le-ltb i (length s) h)
-
-  pub there : i < length s → eqb (get_or s i 0) b ≡ is_at s i b
-  unfolding is_at
-  there h = rw (lt-ltb i (length s) h)
-
-  pub is-at : (r : Bool) → r ≡ is_at s i b → not r ≡ false → (i < length s) × (get_or s i 0 ≡ b)
-  unfolding is_at
-  is-at r e h =
-      let k = both (ltb i (length s)) (eqb (get_or s i 0) b) (sym e ∙ not-false r h) in
-      (ltb-true i (length s) k.0, eqb-true (get_or s i 0) b k.1)
+use Rattle.lines.specs.declared.tokens.Leading.{Leading}
+use Rattle.std.specs.Prelude.{Option, Some, None, Result, Ok, Err, IsErrAnd}
+use Rattle.std.specs.Cmp.Lexicographic.{pointwise, same_text}
+use Rattle.std.specs.List.{position}
+use Rattle.lines.proofs.Bytes.{beyond, beyond-is, found, not_found}
+use Rattle.theory.specs.declared.Rule.{Rule}
+use Rattle.theory.specs.declared.Rule.TheVariants as rule
 
 -- ---- the line of a step
 
--- A number of w digits before the byte b.
-pub record NumberBefore (b : ℕ) (s : List ℕ) (v w : ℕ) : Type 0 where
-  pub ends : (w < length s) × (get_or s w 0 ≡ b)
-  pub rule : (number_ok (take w s) ≡ true) × (value (take w s) ≡ v)
+-- The number l before the byte b.
+pub record NumberBefore (b : ℕ) (s : List ℕ) (l : Leading) : Type 0 where
+  pub ends : (l.width < length s) × (get_or s l.width 0 ≡ b)
+  pub rule : (number_ok (take l.width s) ≡ true) × (value (take l.width s) ≡ l.value)
 
 -- A name of w bytes before the byte b.
 pub record NameBefore (b : ℕ) (s : List ℕ) (w : ℕ) : Type 0 where
   pub ends : (w < length s) × (get_or s w 0 ≡ b)
   pub rule : name_ok (take w s) ≡ true
+
+module _ (b : ℕ) (s : List ℕ) where
+  ends-at : (i : ℕ) → true ≡ is_at s i b → (i < length s) × (get_or s i 0 ≡ b)
+  ends-at i e =
+      let k = both (ltb i (length s)) (eqb (get_or s i 0) b) (sym e) in
+      (ltb-true i (length s) k.0, eqb-true (get_or s i 0) b k.1)
+
+  pub number_before : (r : Option Leading) → r ≡ leading_number s → (l : Leading) → r ≡ Some l → true ≡ is_at s l.width b → NumberBefore b s l
+  number_before r e l f h = record { ends = ends-at l.width h; rule = number_at s l (sym e ∙ f) }
+
+  pub name_before : (r : Option ℕ) → r ≡ name_width s → (w : ℕ) → r ≡ Some w → true ≡ is_at s w b → NameBefore b s w
+  name_before r e w f h = record { ends = ends-at w h; rule = name-at s w (sym e ∙ f) }
 
 upto_join : (b : ℕ) (s t : List ℕ) → Free b s → upto b (s ++ b ∷ t) ≡ length s
 upto_join b s t e =
@@ -112,131 +109,140 @@ module _ (f n t : List ℕ) (gf : number_ok f ≡ true) (gn : name_ok n ≡ true
 before_byte : (b : ℕ) (s : List ℕ) (w : ℕ) → w < length s → get_or s w 0 ≡ b → s ≡ take w s ++ b ∷ drop (w + 1) s
 before_byte b s w h e = split_at s w 0 h ∙ rw (e, add-one w)
 
--- s begins with `step` and a tab.
-module _ (s k : List ℕ) (kind : k ≡ take 5 s) (r : Bool) (e : r ≡ same k (step_word ++ 9 ∷ [])) (y : not r ≡ false) where
-  word : take 5 s ≡ step_word ++ 9 ∷ []
-  word = sym kind ∙ same-eq k (step_word ++ 9 ∷ []) (sym e ∙ not-false r y)
+-- What is known of a first line that was taken.
+pub record LineTaken (p : Place) (s : List ℕ) (l : Line) : Type 0 where
+  pub line : l.length ≡ upto 10 s
+  pub within : l.length < length s
+  pub told : Ok l.record ≡ located (take l.length s) (parse p (take l.length s))
 
-  pub word-long : 5 ≤ length s
-  word-long = omega (arith, length-take 5 s, ap length word)
+first_taken : (p : Place) (s : List ℕ) (l : Line) → LineTaken p s l → Ok l ≡ first_line p s
+unfolding first_line
+first_taken p s l t = rw (← t.line, lt-ltb l.length (length s) t.within, ← t.told)
+
+-- s begins with `step` and a tab.
+module _ (s : List ℕ) (y : pointwise eqb (take 5 s) (step_word ++ 9 ∷ []) ≡ true) where
+  word : take 5 s ≡ step_word ++ 9 ∷ []
+  word = same_text (take 5 s) (step_word ++ 9 ∷ []) (sym y)
 
   -- The fields of s stand behind the word.
-  module _ (fields : List ℕ) (u : fields ≡ drop 5 s) (from a : ℕ) (first : NumberBefore 9 fields from a) (named : List ℕ)
-      (v : named ≡ drop (a + 1) fields) (w : ℕ) (second : NameBefore 9 named w) (last : List ℕ) (x : last ≡ drop (w + 1) named)
-      (to n : ℕ) (third : NumberBefore 10 last to n) where
-    abbrev whole : List ℕ
-    whole = step_text (take a fields) (take w named) (take n last)
+  module _ (fields : List ℕ) (u : fields ≡ drop 5 s) (from : Leading) (first : NumberBefore 9 fields from)
+      (w : ℕ) (second : NameBefore 9 (beyond fields (from.width + 1)) w)
+      (to : Leading) (third : NumberBefore 10 (beyond (beyond fields (from.width + 1)) (w + 1)) to) where
+    abbrev named : List ℕ
+    named = beyond fields (from.width + 1)
 
-    cut : s ≡ whole ++ 10 ∷ drop (n + 1) last
+    abbrev last : List ℕ
+    last = beyond named (w + 1)
+
+    abbrev whole : List ℕ
+    whole = step_text (take from.width fields) (take w named) (take to.width last)
+
+    cut : s ≡ whole ++ 10 ∷ drop (to.width + 1) last
     unfolding step_text
     cut =
-        let g : last ≡ take n last ++ 10 ∷ drop (n + 1) last = before_byte 10 last n third.ends.0 third.ends.1 in
-        let h : named ≡ take w named ++ 9 ∷ last = before_byte 9 named w second.ends.0 second.ends.1 ∙ rw (← x) in
-        let i : fields ≡ take a fields ++ 9 ∷ named = before_byte 9 fields a first.ends.0 first.ends.1 ∙ rw (← v) in
+        let g : last ≡ take to.width last ++ 10 ∷ drop (to.width + 1) last = before_byte 10 last to.width third.ends.0 third.ends.1 in
+        let h : named ≡ take w named ++ 9 ∷ last =
+        before_byte 9 named w second.ends.0 second.ends.1 ∙ ap (λ l. take w named ++ 9 ∷ l) (sym (beyond-is named (w + 1))) in
+        let i : fields ≡ take from.width fields ++ 9 ∷ named =
+        before_byte 9 fields from.width first.ends.0 first.ends.1 ∙ ap (λ l. take from.width fields ++ 9 ∷ l) (sym (beyond-is fields (from.width + 1))) in
         sym (take-append-drop 5 s) ∙ ap (λ l. l ++ drop 5 s) word ∙ ap (λ l. step_word ++ 9 ∷ l)
-        (sym u ∙ i ∙ ap (λ l. take a fields ++ 9 ∷ l) (h ∙ ap (λ l. take w named ++ 9 ∷ l) g)
+        (sym u ∙ i ∙ ap (λ l. take from.width fields ++ 9 ∷ l) (h ∙ ap (λ l. take w named ++ 9 ∷ l) g)
         ∙ simp append_assoc)
 
-    width-from : length (take a fields) ≡ a
-    width-from = length-take-le a fields (omega (arith, first.ends.0))
+    width-from : length (take from.width fields) ≡ from.width
+    width-from = length-take-le from.width fields (omega (arith, first.ends.0))
 
     width-name : length (take w named) ≡ w
     width-name = length-take-le w named (omega (arith, second.ends.0))
 
-    lengths : length whole ≡ a + 6 + w + 1 + n
+    lengths : length whole ≡ from.width + 6 + w + 1 + to.width
     lengths =
-        long (take a fields) (take w named) (take n last) first.rule.0 second.rule third.rule.0
-        ∙ rw (width-from, width-name, length-take-le n last (omega (arith, third.ends.0)))
+        long (take from.width fields) (take w named) (take to.width last) first.rule.0 second.rule third.rule.0
+        ∙ rw (width-from, width-name, length-take-le to.width last (omega (arith, third.ends.0)))
 
-    the_line : take (a + 6 + w + 1 + n) s ≡ whole
-    the_line = rw (← lengths, cut) (take-append_seam whole (10 ∷ drop (n + 1) last))
+    the_line : take (from.width + 6 + w + 1 + to.width) s ≡ whole
+    the_line = rw (← lengths, cut) (take-append_seam whole (10 ∷ drop (to.width + 1) last))
 
-    pub step-first : StepFirst s from (a + 6) (a + 6 + w) to (a + 6 + w + 1 + n)
-    step-first = record {
+    abbrev read : Line
+    read = record { «record» = Step from.value (from.width + 6) (from.width + 6 + w) to.value; length = from.width + 6 + w + 1 + to.width }
+
+    pub step-first : step_read s (Some read)
+    step-first = λ p h. first_taken p s read (record {
       line =
           sym (ap (upto 10) cut
-          ∙ upto_join 10 whole (drop (n + 1) last) (free (take a fields) (take w named) (take n last) first.rule.0 second.rule third.rule.0)
+          ∙ upto_join 10 whole (drop (to.width + 1) last)
+          (free (take from.width fields) (take w named) (take to.width last) first.rule.0 second.rule third.rule.0)
           ∙ lengths);
-      within = omega (arith, lengths, ap length cut ∙ length-append whole (10 ∷ drop (n + 1) last));
-      step = λ p h.
+      within = omega (arith, lengths, ap length cut ∙ length-append whole (10 ∷ drop (to.width + 1) last));
+      told =
           rw (
             the_line,
-            says (take a fields) (take w named) (take n last) first.rule.0 second.rule third.rule.0 p h,
-            starts (take a fields) (take w named) (take n last) first.rule.0 second.rule third.rule.0,
+            says (take from.width fields) (take w named) (take to.width last) first.rule.0 second.rule third.rule.0 p h,
+            starts (take from.width fields) (take w named) (take to.width last) first.rule.0 second.rule third.rule.0,
             width-from,
             width-name,
             first.rule.1,
             third.rule.1,
           );
-    }
+    })
 
 -- ---- the first line of a text
 
-pub measured-fields : (n : ℕ) (q : Parsed) (r : Record) → q ≡ Fields r → Taken r n ≡ measured n q
-measured-fields n q r e = rw e
-
-pub measured-refused : (n : ℕ) (q : Parsed) (k : ℕ) → q ≡ Refused k → NoLine k ≡ measured n q
-measured-refused n q k e = rw e
-
-module _ (p : Place) (s : List ℕ) where
-  pub first_step : (t : Bool) → t ≡ takes_step p → not t ≡ false → (q : Reading) → step_read s q → (from start end to n : ℕ) → q ≡ Step from start end to n
-      → Taken (StepRecord from start end to) n ≡ first_line p s
+module _ (p : Place) (s : List ℕ) (r : Option ℕ) (e : r ≡ position (λ x. eqb x 10) s) where
+  pub first_unended : r ≡ None → Err rule.LineForm ≡ first_line p s
   unfolding first_line
-  first_step t g h q d from start end to n e =
-      let f : StepFirst s from start end to n = rw e at d in
-      rw (← f.line, lt-ltb n (length s) f.within, ← f.step p (sym g ∙ not-false t h))
+  first_unended h = rw (le-ltb (upto 10 s) (length s) (not_found 10 s r e h))
 
-  module _ (n : ℕ) (e : n ≡ upto 10 s) where
-    pub first-unended : length s ≤ n → NoLine 14 ≡ first_line p s
-    unfolding first_line
-    first-unended h = rw (← e, le-ltb n (length s) h)
+  module _ (n : ℕ) (h : r ≡ Some n) (q : Result Record Rule) (g : q ≡ located (take n s) (parse p (take n s))) where
+    at-end : (n ≡ upto 10 s) × (n < length s)
+    at-end = found 10 s r e n h
 
-    pub first-line : n < length s → (l : List ℕ) → l ≡ take n s → (q : Parsed) → q ≡ located l (parse p l) → (r : Line) → r ≡ measured n q → r ≡ first_line p s
+    measured-is : measured n q ≡ first_line p s
     unfolding first_line
-    first-line h l f q g r k = k ∙ rw (← e, lt-ltb n (length s) h, g, f)
+    measured-is = rw (← at-end.0, lt-ltb n (length s) at-end.1, g)
+
+    pub first_ok : (r : Record) → q ≡ Ok r → Ok (record { «record» = r; length = n }) ≡ first_line p s
+    first_ok r f = sym (ap (measured n) f) ∙ measured-is
+
+    pub first_err : (k : Rule) → q ≡ Err k → (o : Result Line Rule) → IsErrAnd o (λ y. y ≡ k) → o ≡ first_line p s
+    first_err k f o i = is_err_of o k i ∙ sym (ap (measured n) f) ∙ measured-is
 
 -- ---- what the reply for a first line says
 
-pub record LineTaken (p : Place) (s : List ℕ) (r : Record) (n : ℕ) : Type 0 where
-  pub line : n ≡ upto 10 s
-  pub within : n < length s
-  pub told : Fields r ≡ located (take n s) (parse p (take n s))
-
-pub record LineRefused (p : Place) (s : List ℕ) (k : ℕ) : Type 0 where
-  pub unended : length s ≤ upto 10 s → k ≡ 14
+pub record LineRefused (p : Place) (s : List ℕ) (k : Rule) : Type 0 where
+  pub unended : length s ≤ upto 10 s → k ≡ rule.LineForm
   pub told : upto 10 s < length s → parse p (take (upto 10 s) s) ≡ refused k
 
-module _ (p : Place) (s : List ℕ) (q : Line) (e : q ≡ first_line p s) where
-  abbrev own : Parsed
+module _ (p : Place) (s : List ℕ) (q : Result Line Rule) (e : q ≡ first_line p s) where
+  abbrev own : Result Record Rule
   own = located (take (upto 10 s) s) (parse p (take (upto 10 s) s))
 
   ended : upto 10 s < length s → q ≡ measured (upto 10 s) own
   unfolding first_line
   ended h = e ∙ rw (lt-ltb (upto 10 s) (length s) h)
 
-  unended : length s ≤ upto 10 s → q ≡ NoLine 14
+  unended : length s ≤ upto 10 s → q ≡ Err rule.LineForm
   unfolding first_line
   unended h = e ∙ rw (le-ltb (upto 10 s) (length s) h)
 
-  pub line_taken : (r : Record) (n : ℕ) → q ≡ Taken r n → LineTaken p s r n
-  line_taken r n f = elim (dec_lt (upto 10 s) (length s)) [
+  pub line_taken : (l : Line) → q ≡ Ok l → LineTaken p s l
+  line_taken l f = elim (dec_lt (upto 10 s) (length s)) [
     | yes h ↦ go own refl h (sym (ended h) ∙ f)
     | no h ↦ absurd (let z = unended (omega arith) in let o : ◌≡◌ {A = ℕ} 0 1 = cc in omega arith)
   ]
     where
-      go : (o : Parsed) → own ≡ o → upto 10 s < length s → measured (upto 10 s) o ≡ Taken r n → LineTaken p s r n
-      go (Fields r') g h k =
-          let x : r' ≡ r = cc in
-          let y : upto 10 s ≡ n = cc in
-          record { line = sym y; within = omega arith; told = rw (← y) (sym (g ∙ ap Fields x)) }
-      go (Refused i) g h k = absurd (let o : ◌≡◌ {A = ℕ} 0 1 = cc in omega arith)
+      go : (o : Result Record Rule) → own ≡ o → upto 10 s < length s → measured (upto 10 s) o ≡ Ok l → LineTaken p s l
+      go (Ok r) g h k =
+          let x : record { «record» = r; length = upto 10 s } ≡ l = cc in
+          rw (← x) (record { line = refl; within = h; told = sym g })
+      go (Err i) g h k = absurd (let o : ◌≡◌ {A = ℕ} 0 1 = cc in omega arith)
 
-  pub line_refused : (k : ℕ) → q ≡ NoLine k → LineRefused p s k
+  pub line_refused : (k : Rule) → q ≡ Err k → LineRefused p s k
   line_refused k f = record {
     unended = λ h. let z = unended h in cc;
     told = λ h. go own refl h (sym (ended h) ∙ f);
   }
     where
-      go : (o : Parsed) → own ≡ o → upto 10 s < length s → measured (upto 10 s) o ≡ NoLine k → parse p (take (upto 10 s) s) ≡ refused k
-      go (Fields r') g h i = absurd (let o : ◌≡◌ {A = ℕ} 0 1 = cc in omega arith)
-      go (Refused j) g h i = let x : j ≡ k = cc in refused_reply_lem p (take (upto 10 s) s) k (g ∙ ap Refused x)
+      go : (o : Result Record Rule) → own ≡ o → upto 10 s < length s → measured (upto 10 s) o ≡ Err k → parse p (take (upto 10 s) s) ≡ refused k
+      go (Ok r) g h i = absurd (let o : ◌≡◌ {A = ℕ} 0 1 = cc in omega arith)
+      go (Err j) g h i = let x : j ≡ k = cc in refused_reply_lem p (take (upto 10 s) s) k (g ∙ ap Err x)

@@ -2,56 +2,78 @@
 use mathlib.Core.Path.{◌≡◌, refl, sym, ap, ◌∙◌}
 use mathlib.Core.Bool.{Bool, true, false, cond}
 use mathlib.Core.List.{List, [], ◌∷◌}
-use Prim.Native.Nat.{ℕ, ◌+◌, ◌-◌, ◌≤◌, ◌<◌}
+use Prim.Native.Nat.{ℕ, ◌+◌, ◌-◌, ◌<◌}
 use native.Mathlib.Omega.{arith}
+use lib.Dec.{eqb}
 use lib.ListN.{length, take, drop, length-drop}
 use lib.Seq.{drop-drop}
 use Rattle.text.specs.Fields.{split, upto}
 use Rattle.text.proofs.Split.{upto_le, split-last, split-cut, split-some, split-more, split_one}
 use Rattle.lines.specs.Located.{is_three, after_kind, three_fields}
-use Rattle.lines.specs.declared.Cut.{Cut}
-use Rattle.lines.specs.declared.Cut.TheVariants.{Three, Other}
+use Rattle.std.specs.Prelude.{Option, Some, None}
+use Rattle.std.specs.List.{position, list_any}
+use Rattle.std.proofs.lemmas.Option.{none-some, some_pair_parts}
+use Rattle.lines.proofs.Bytes.{beyond, beyond-is, found, not_found, contains_some, contains_none}
 
 -- ---- the returns
 
-module _ (s : List ℕ) (first : ℕ) (e : first ≡ upto 9 s) where
-  pub cut-one : length s ≤ first → Other ≡ three_fields s
+module _ (s : List ℕ) (r : Option ℕ) (e : r ≡ position (λ x. eqb x 9) s) where
+  pub cut_one : r ≡ None → None ≡ three_fields s
   unfolding three_fields
-  cut-one h = rw (split-last 9 s (omega (arith, upto_le 9 s)))
+  cut_one h = rw (split-last 9 s (omega (arith, upto_le 9 s, not_found 9 s r e h)))
 
-  module _ (h : first < length s) (tail : List ℕ) (f : tail ≡ drop (first + 1) s) (width : ℕ) (g : width ≡ upto 9 tail) where
-    fields : split 9 s ≡ take first s ∷ split 9 tail
-    fields = split-cut 9 s (omega arith) ∙ rw (← e, f)
+  module _ (first : ℕ) (h : r ≡ Some first) where
+    at-first : (first ≡ upto 9 s) × (first < length s)
+    at-first = found 9 s r e first h
 
-    pub cut-two : length tail ≤ width → Other ≡ three_fields s
-    unfolding three_fields
-    cut-two i = rw (fields, split-last 9 tail (omega (arith, upto_le 9 tail)))
+    abbrev tail : List ℕ
+    tail = beyond s (first + 1)
 
-    module _ (i : width < length tail) (last : List ℕ) (k : last ≡ drop (width + 1) tail) (n : ℕ) (l : n ≡ upto 9 last) where
-      three : split 9 s ≡ take first s ∷ take width tail ∷ split 9 last
-      three = fields ∙ ap (λ (r : List (List ℕ)). take first s ∷ r) (split-cut 9 tail (omega arith) ∙ rw (← g, k))
+    module _ (r' : Option ℕ) (f : r' ≡ position (λ x. eqb x 9) tail) where
+      fields : split 9 s ≡ take first s ∷ split 9 tail
+      fields = split-cut 9 s (omega (arith, at-first)) ∙ rw (← at-first.0, beyond-is s (first + 1))
 
-      pub cut-more : n < length last → Other ≡ three_fields s
+      pub cut_two : r' ≡ None → None ≡ three_fields s
       unfolding three_fields
-      cut-more j =
-          let r = split-some 9 (drop (upto 9 last + 1) last) in
-          rw (three, split-cut 9 last (omega arith), r.2)
+      cut_two i = rw (fields, split-last 9 tail (omega (arith, upto_le 9 tail, not_found 9 tail r' f i)))
 
-      pub cut-three : length last ≤ n → Three first (first + 1 + width) ≡ three_fields s
-      unfolding three_fields
-      cut-three j =
-          let w : width ≡ upto 9 (after_kind s) = g ∙ rw (f, e) in
-          rw (three, split-last 9 last (omega (arith, upto_le 9 last)), ← w, ← e)
+      module _ (width : ℕ) (i : r' ≡ Some width) where
+        at-second : (width ≡ upto 9 tail) × (width < length tail)
+        at-second = found 9 tail r' f width i
+
+        abbrev last : List ℕ
+        last = beyond s (first + 1 + width + 1)
+
+        module _ (b : Bool) (k : b ≡ list_any (λ x. eqb x 9) last) where
+          three : split 9 s ≡ take first s ∷ take width tail ∷ split 9 last
+          three =
+              let z : first + 1 + (width + 1) ≡ first + 1 + width + 1 = omega arith in
+              let l : drop (width + 1) tail ≡ last =
+              ap (drop (width + 1)) (beyond-is s (first + 1)) ∙ drop-drop (width + 1) (first + 1) s ∙ ap (λ (n : ℕ). drop n s) z
+              ∙ sym (beyond-is s (first + 1 + width + 1)) in
+              fields ∙ ap (λ (r : List (List ℕ)). take first s ∷ r) (split-cut 9 tail (omega (arith, at-second)) ∙ rw (← at-second.0, l))
+
+          pub cut_more : b ≡ true → None ≡ three_fields s
+          unfolding three_fields
+          cut_more j =
+              let r = split-some 9 (drop (upto 9 last + 1) last) in
+              rw (three, split-cut 9 last (contains_some 9 last (sym j ∙ k)), r.2)
+
+          pub cut_three : b ≡ false → Some (first, first + 1 + width) ≡ three_fields s
+          unfolding three_fields
+          cut_three j =
+              let w : width ≡ upto 9 (after_kind s) = at-second.0 ∙ rw (beyond-is s (first + 1), at-first.0) in
+              rw (three, split-last 9 last (omega (arith, upto_le 9 last, contains_none 9 last (sym j ∙ k))), ← w, ← at-first.0)
 
 -- ---- the reply
 
-module _ (s : List ℕ) (r : Cut) (e : r ≡ three_fields s) where
-  pub not_three : r ≡ Other → is_three (split 9 s) ≡ false
+module _ (s : List ℕ) (r : Option (ℕ × ℕ)) (e : r ≡ three_fields s) where
+  pub not_three : r ≡ None → is_three (split 9 s) ≡ false
   unfolding three_fields
   not_three f = go (is_three (split 9 s)) (sym e ∙ f)
     where
-      go : (b : Bool) → cond b (Three (upto 9 s) (upto 9 s + 1 + upto 9 (after_kind s))) Other ≡ Other → b ≡ false
-      go true q = absurd (let o : ◌≡◌ {A = ℕ} 0 1 = cc in omega arith)
+      go : (b : Bool) → cond {A = Option (ℕ × ℕ)} b (Some (upto 9 s, upto 9 s + 1 + upto 9 (after_kind s))) None ≡ None → b ≡ false
+      go true q = absurd (none-some _ (sym q))
       go false q = refl
 
 -- Three fields of s, parted by the tabs at first and second.
@@ -77,7 +99,7 @@ three-fields s x y z e =
       fields = rw (n, ← l, ← c.first, ← d.first) e;
     }
 
-pub three-at : (s : List ℕ) (r : Cut) (first second : ℕ) → r ≡ three_fields s → r ≡ Three first second → ThreeAt s first second
+pub three-at : (s : List ℕ) (r : Option (ℕ × ℕ)) (first second : ℕ) → r ≡ three_fields s → r ≡ Some (first, second) → ThreeAt s first second
 unfolding three_fields
 three-at s r first second e f = go (split 9 s) refl (sym e ∙ f)
   where
@@ -86,9 +108,9 @@ three-at s r first second e f = go (split 9 s) refl (sym e ∙ f)
     at p q t = rw (← p, ← q) t
 
     go : (fs : List (List ℕ)) → split 9 s ≡ fs
-        → cond (is_three fs) (Three (upto 9 s) (upto 9 s + 1 + upto 9 (after_kind s))) Other ≡ Three first second → ThreeAt s first second
-    go [] g q = absurd (let o : ◌≡◌ {A = ℕ} 0 1 = cc in omega arith)
-    go (x ∷ []) g q = absurd (let o : ◌≡◌ {A = ℕ} 0 1 = cc in omega arith)
-    go (x ∷ y ∷ []) g q = absurd (let o : ◌≡◌ {A = ℕ} 0 1 = cc in omega arith)
-    go (x ∷ y ∷ z ∷ []) g q = at (cc) (cc) (three-fields s x y z g)
-    go (x ∷ y ∷ z ∷ v ∷ fs) g q = absurd (let o : ◌≡◌ {A = ℕ} 0 1 = cc in omega arith)
+        → cond {A = Option (ℕ × ℕ)} (is_three fs) (Some (upto 9 s, upto 9 s + 1 + upto 9 (after_kind s))) None ≡ Some (first, second) → ThreeAt s first second
+    go [] g q = absurd (none-some _ q)
+    go (x ∷ []) g q = absurd (none-some _ q)
+    go (x ∷ y ∷ []) g q = absurd (none-some _ q)
+    go (x ∷ y ∷ z ∷ []) g q = let k = some_pair_parts _ first _ second q in at k.0 k.1 (three-fields s x y z g)
+    go (x ∷ y ∷ z ∷ v ∷ fs) g q = absurd (none-some _ q)

@@ -1,14 +1,14 @@
-// Takes lines of table text apart (document 01, "Table text"): gives the fields of a record, or the number of its refusal. Compares and cuts parts, and
+// Takes lines of table text apart (document 01, "Table text"): gives the fields of a record, or the rule that it breaks. Compares and cuts parts, and
 // knows the name rule.
 #![tactic(auto)]
 
-ghost use Rattle.std.specs.Prelude.{◌≡◌, ℕ, ◌+◌, ◌<◌, length};
+ghost use Rattle.std.specs.Prelude.{◌≡◌, ℕ, ◌+◌, ◌<◌, length, IfSome};
 ghost use Rattle.text.specs.Fields.{split, upto};
 ghost use Rattle.text.specs.Lines.{role_word, takes_table, takes_declaration, takes_step, table_line, declaration_line, step_line, parse as entry};
-ghost use Rattle.lines.specs.Located.{kind_of, three_fields, judgement, placed, located, measured, first_line};
+ghost use Rattle.lines.specs.Located.{kind_of, three_fields, judgement, placed, located, first_line};
 
-use one_pass::Reading;
-use text::{Number, Place, Role};
+use text::{Place, Role};
+use theory::Rule;
 
 mod one_pass;
 mod scan;
@@ -34,18 +34,11 @@ pub enum Record {
     },
 }
 
-// What `parse` returns: the record of a line and its length without the LF, or the number of its refusal.
+// What a line says, and the length of the line without its LF.
 #[derive(Clone, Copy)]
-pub enum Line {
-    Taken(Record, usize),
-    Refused(u32),
-}
-
-// What `parse_line` returns: the record of a line that is given without its LF, or the number of its refusal.
-#[derive(Clone, Copy)]
-pub enum Parsed {
-    Fields(Record),
-    Refused(u32),
+pub struct Line {
+    pub record: Record,
+    pub length: usize,
 }
 
 // Kinds of line.
@@ -54,21 +47,6 @@ enum Kind {
     TableLine,
     DeclarationLine(Role),
     StepLine,
-    Unknown,
-}
-
-// Where the two tabs between three fields stand; `Other` if there are not three fields.
-#[derive(Clone, Copy)]
-enum Cut {
-    Three { first: usize, second: usize },
-    Other,
-}
-
-// The values of the two numbers of a line, or the number of its refusal.
-#[derive(Clone, Copy)]
-enum Judged {
-    Good(usize, usize),
-    Bad(u32),
 }
 
 // Returns the byte of a declaration at which the name begins.
@@ -85,216 +63,154 @@ pub fn name_start(role: Role) -> usize
 fn takes_table(place: Place) -> bool
     ensures { result ≡ takes_table place }
 {
-    match place {
-        Place::Head => true,
-        Place::Declarations => false,
-        Place::Steps => false,
-    }
+    matches!(place, Place::Head)
 }
 
 // Tells whether an `in` or `out` line may stand at a place.
 fn takes_declaration(place: Place) -> bool
     ensures { result ≡ takes_declaration place }
 {
-    match place {
-        Place::Head => false,
-        Place::Declarations => true,
-        Place::Steps => false,
-    }
+    matches!(place, Place::Declarations)
 }
 
 // Tells whether a `step` line may stand at a place.
 fn takes_step(place: Place) -> bool
     ensures { result ≡ takes_step place }
 {
-    match place {
-        Place::Head => false,
-        Place::Declarations => true,
-        Place::Steps => true,
-    }
+    !matches!(place, Place::Head)
 }
 
 // Tells which kind of line begins with this field.
-fn kind_of(word: &[u8]) -> Kind
+fn kind_of(word: &[u8]) -> Option<Kind>
     ensures { result ≡ kind_of word.now }
 {
-    if scan::equal(word, b"table") {
-        return Kind::TableLine;
+    if word == b"table".as_slice() {
+        return Some(Kind::TableLine);
     }
-    if scan::equal(word, b"in") {
-        return Kind::DeclarationLine(Role::Input);
+    if word == b"in".as_slice() {
+        return Some(Kind::DeclarationLine(Role::Input));
     }
-    if scan::equal(word, b"out") {
-        return Kind::DeclarationLine(Role::Output);
+    if word == b"out".as_slice() {
+        return Some(Kind::DeclarationLine(Role::Output));
     }
-    if scan::equal(word, b"step") {
-        return Kind::StepLine;
-    }
-    Kind::Unknown
+    (word == b"step".as_slice()).then_some(Kind::StepLine)
 }
 
 // Finds the two tabs between exactly three fields.
-fn three_fields(s: &[u8]) -> Cut
-    ensures { result ≡ three_fields s.now }
+fn three_fields(s: &[u8]) -> Option<(usize, usize)>
+    ensures value { result ≡ three_fields s.now }
+    ensures within { IfSome result (λ p. (p.0 < p.1) × (p.1 < length s.now)) }
 {
-    let first = scan::find(s, b'\t');
-    if s.len() <= first {
-        return Cut::Other;
+    let first = scan::find(s, b'\t')?;
+    let second = first + 1 + scan::find(&s[first + 1..], b'\t')?;
+    if s[second + 1..].contains(&b'\t') {
+        return None;
     }
-    let rest = scan::tail(s, first + 1);
-    let width = scan::find(rest, b'\t');
-    if rest.len() <= width {
-        return Cut::Other;
-    }
-    let last = scan::tail(rest, width + 1);
-    if scan::find(last, b'\t') < last.len() {
-        return Cut::Other;
-    }
-    Cut::Three {
-        first,
-        second: first + 1 + width,
-    }
+    Some((first, second))
 }
 
 // Judges the place, the name and the two numbers of a line, in the order of the refusals 15, 16 and 17.
-fn judge(in_place: bool, name: &[u8], x: &[u8], y: &[u8]) -> Judged
+fn judge(in_place: bool, name: &[u8], x: &[u8], y: &[u8]) -> Result<(usize, usize), Rule>
     ensures { result ≡ judgement in_place name.now x.now y.now }
 {
     if !in_place {
-        return Judged::Bad(15);
+        return Err(Rule::LineOrder);
     }
     if !tokens::is_name(name) {
-        return Judged::Bad(16);
+        return Err(Rule::NameForm);
     }
-    let Number::Value(a) = tokens::number(x) else {
-        return Judged::Bad(17);
+    let (Some(a), Some(b)) = (tokens::number(x), tokens::number(y)) else {
+        return Err(Rule::NumberForm);
     };
-    let Number::Value(b) = tokens::number(y) else {
-        return Judged::Bad(17);
-    };
-    Judged::Good(a, b)
+    Ok((a, b))
 }
 
 // Takes apart what follows the kind of a `table` line.
-fn table_line(rest: &[u8], place: Place) -> Parsed
+fn table_line(rest: &[u8], place: Place) -> Result<Record, Rule>
     ensures { (at : ℕ) → result ≡ placed at (table_line place (split 9 rest.now)) }
 {
-    let Cut::Three { first, second } = three_fields(rest) else {
-        return Parsed::Refused(14);
+    let Some((first, second)) = three_fields(rest) else {
+        return Err(Rule::LineForm);
     };
-    let name = scan::before(rest, first);
-    let states = scan::part(rest, first + 1, second);
-    match judge(
+    let (states, initial) = judge(
         takes_table(place),
-        name,
-        states,
-        scan::tail(rest, second + 1),
-    ) {
-        Judged::Good(states, initial) => Parsed::Fields(Record::Table { states, initial }),
-        Judged::Bad(number) => Parsed::Refused(number),
-    }
+        &rest[..first],
+        &rest[first + 1..second],
+        &rest[second + 1..],
+    )?;
+    Ok(Record::Table { states, initial })
 }
 
 // Takes apart what follows the kind of an `in` or `out` line.
-fn declaration_line(rest: &[u8], role: Role, place: Place) -> Parsed
+fn declaration_line(rest: &[u8], role: Role, place: Place) -> Result<Record, Rule>
     ensures { (at : ℕ) → result ≡ placed at (declaration_line role place (split 9 rest.now)) }
 {
-    if scan::find(rest, b'\t') < rest.len() {
-        return Parsed::Refused(14);
+    if rest.contains(&b'\t') {
+        return Err(Rule::LineForm);
     }
     if !takes_declaration(place) {
-        return Parsed::Refused(15);
+        return Err(Rule::LineOrder);
     }
     if !tokens::is_name(rest) {
-        return Parsed::Refused(16);
+        return Err(Rule::NameForm);
     }
-    Parsed::Fields(Record::Declaration(role))
+    Ok(Record::Declaration(role))
 }
 
 // Takes apart what follows the kind of a `step` line and begins at its byte `at`.
-fn step_line(rest: &[u8], at: usize, place: Place) -> Parsed
+fn step_line(rest: &[u8], at: usize, place: Place) -> Result<Record, Rule>
     requires { at + length rest.now < 18446744073709551616 }
     ensures { result ≡ placed (at + upto 9 rest.now + 1) (step_line place (split 9 rest.now)) }
 {
-    let Cut::Three { first, second } = three_fields(rest) else {
-        return Parsed::Refused(14);
+    let Some((first, second)) = three_fields(rest) else {
+        return Err(Rule::LineForm);
     };
-    let from = scan::before(rest, first);
-    let name = scan::part(rest, first + 1, second);
-    match judge(takes_step(place), name, from, scan::tail(rest, second + 1)) {
-        Judged::Good(from, to) => Parsed::Fields(Record::Step {
-            from,
-            start: at + first + 1,
-            end: at + second,
-            to,
-        }),
-        Judged::Bad(number) => Parsed::Refused(number),
-    }
+    let name = &rest[first + 1..second];
+    let (from, to) = judge(takes_step(place), name, &rest[..first], &rest[second + 1..])?;
+    Ok(Record::Step {
+        from,
+        start: at + first + 1,
+        end: at + second,
+        to,
+    })
 }
 
 // Takes apart a line that is given without its LF.
-fn parse_line(line: &[u8], place: Place) -> Parsed
+fn parse_line(line: &[u8], place: Place) -> Result<Record, Rule>
     ensures { result ≡ located line.now (entry place line.now) }
 {
-    let tab = scan::find(line, b'\t');
-    if line.len() <= tab {
-        return Parsed::Refused(14);
-    }
-    let rest = scan::tail(line, tab + 1);
-    match kind_of(scan::before(line, tab)) {
-        Kind::TableLine => table_line(rest, place),
-        Kind::DeclarationLine(role) => declaration_line(rest, role, place),
-        Kind::StepLine => step_line(rest, tab + 1, place),
-        Kind::Unknown => Parsed::Refused(14),
-    }
-}
-
-// Adds the length of a line to what it says.
-fn of_length(parsed: Parsed, length: usize) -> Line
-    ensures { result ≡ measured length parsed }
-{
-    match parsed {
-        Parsed::Fields(record) => Line::Taken(record, length),
-        Parsed::Refused(number) => Line::Refused(number),
+    let Some(tab) = scan::find(line, b'\t') else {
+        return Err(Rule::LineForm);
+    };
+    let rest = &line[tab + 1..];
+    match kind_of(&line[..tab]) {
+        Some(Kind::TableLine) => table_line(rest, place),
+        Some(Kind::DeclarationLine(role)) => declaration_line(rest, role, place),
+        Some(Kind::StepLine) => step_line(rest, tab + 1, place),
+        None => Err(Rule::LineForm),
     }
 }
 
 // Takes apart the first line of s, of whatever kind: looks for its LF first, then for its fields.
-fn parse_any(s: &[u8], place: Place) -> Line
+fn parse_any(s: &[u8], place: Place) -> Result<Line, Rule>
     ensures { result ≡ first_line place s.now }
 {
-    let length = scan::find(s, b'\n');
-    if s.len() <= length {
-        return Line::Refused(14);
-    }
-    of_length(parse_line(scan::before(s, length), place), length)
+    let Some(length) = scan::find(s, b'\n') else {
+        return Err(Rule::LineForm);
+    };
+    let record = parse_line(&s[..length], place)?;
+    Ok(Line { record, length })
 }
 
-// Takes apart the first line of s, by the kinds that may stand at `place`; refuses it by 14 if it lacks its LF. Where a step may stand, most lines
-// are steps without a fault, and these are taken apart in one pass.
-pub fn parse(s: &[u8], place: Place) -> Line
+// Takes apart the first line of s, by the kinds that may stand at `place`, or returns the rule that it breaks: 14 if it lacks its LF. Where a step
+// may stand, most lines are steps without a fault, and these are taken apart in one pass.
+pub fn parse(s: &[u8], place: Place) -> Result<Line, Rule>
     ensures { result ≡ first_line place s.now }
 {
-    if !takes_step(place) {
-        return parse_any(s, place);
+    if takes_step(place) {
+        if let Some(line) = one_pass::step_line(s) {
+            return Ok(line);
+        }
     }
-    let Reading::Step {
-        from,
-        start,
-        end,
-        to,
-        length,
-    } = one_pass::step_line(s)
-    else {
-        return parse_any(s, place);
-    };
-    Line::Taken(
-        Record::Step {
-            from,
-            start,
-            end,
-            to,
-        },
-        length,
-    )
+    parse_any(s, place)
 }

@@ -4,75 +4,49 @@ ghost use Rattle.std.specs.Prelude.{◌≡◌};
 ghost use Rattle.lines.specs.OnePass.{is_at, step_read};
 
 use crate::tokens::Leading;
-use crate::{scan, tokens};
-
-// Fields of a step, as in `Record`, and the length of its line without the LF; or `Other` for any other line.
-#[derive(Clone, Copy)]
-pub enum Reading {
-    Step {
-        from: usize,
-        start: usize,
-        end: usize,
-        to: usize,
-        length: usize,
-    },
-    Other,
-}
+use crate::{Line, Record, tokens};
 
 // Tells whether s has the byte b at `at`. It is a function since the compiler keeps the loops of `step_line` in registers then.
 fn is_at(s: &[u8], at: usize, b: u8) -> bool
     ensures { result ≡ is_at s.now at b }
 {
-    if s.len() <= at {
-        return false;
-    }
-    s[at] == b
+    at < s.len() && s[at] == b
 }
 
-// Takes apart the step line at the start of s; gives `Other` if there is none that keeps every rule.
-pub fn step_line(s: &[u8]) -> Reading
+// Takes apart the step line at the start of s, if there is one that keeps every rule.
+pub fn step_line(s: &[u8]) -> Option<Line>
     ensures { step_read s.now result }
 {
-    if !scan::equal(scan::before(s, 5), b"step\t") {
-        return Reading::Other;
-    }
-    let fields = scan::tail(s, 5);
-    let Leading::Number {
+    let fields = s.strip_prefix(b"step\t")?;
+    let Leading {
         value: from,
         width: first,
-    } = tokens::leading_number(fields)
-    else {
-        return Reading::Other;
-    };
+    } = tokens::leading_number(fields)?;
     if !is_at(fields, first, b'\t') {
-        return Reading::Other;
+        return None;
     }
-    let named = scan::tail(fields, first + 1);
-    let second = tokens::name_width(named);
-    if second == 0 {
-        return Reading::Other;
-    }
+    let named = &fields[first + 1..];
+    let second = tokens::name_width(named)?;
     if !is_at(named, second, b'\t') {
-        return Reading::Other;
+        return None;
     }
-    let last = scan::tail(named, second + 1);
-    let Leading::Number {
+    let last = &named[second + 1..];
+    let Leading {
         value: to,
         width: third,
-    } = tokens::leading_number(last)
-    else {
-        return Reading::Other;
-    };
+    } = tokens::leading_number(last)?;
     if !is_at(last, third, b'\n') {
-        return Reading::Other;
+        return None;
     }
     let start = first + 6;
     let end = start + second;
-    Reading::Step {
-        from,
-        start,
-        end,
-        to,
+    Some(Line {
+        record: Record::Step {
+            from,
+            start,
+            end,
+            to,
+        },
         length: end + 1 + third,
-    }
+    })
 }

@@ -1,16 +1,12 @@
 -- The replies of the C calls, from the library's: every field in every case.
-use Rattle.std.specs.Prelude.{ℕ, Bool, true, false}
+use Rattle.std.specs.Prelude.{ℕ, Bool, true, false, Option, Some, None, Result, Ok, Err}
+use Rattle.theory.specs.declared.Refusal.{Refusal}
 use Rattle.table.specs.declared.Status.{Status}
 use Rattle.table.specs.Statuses.{status_of, accepted_status}
-use Rattle.table.specs.declared.Followed.{Followed}
-use Rattle.table.specs.declared.Followed.TheVariants as followed
 use Rattle.compatibility.specs.declared.Compatibility.{Compatibility}
-use Rattle.compatibility.specs.declared.Compatibility.TheVariants as compatibility
-use Rattle.refinement.specs.declared.Refined.{Refined}
-use Rattle.refinement.specs.declared.Refined.TheVariants as refined
-use Rattle.moqresam.specs.declared.FitReply.{FitReply}
-use Rattle.moqresam.specs.declared.RefineReply.{RefineReply}
-use Rattle.moqresam.specs.declared.FollowReply.{FollowReply}
+use Rattle.moqresam.specs.declared.replies.FitReply.{FitReply}
+use Rattle.moqresam.specs.declared.replies.RefineReply.{RefineReply}
+use Rattle.moqresam.specs.declared.replies.FollowReply.{FollowReply}
 
 -- The fields of a reply, from the status, the verdict and the rounds.
 abbrev pub fit_with : Status → Bool → ℕ → FitReply
@@ -25,9 +21,9 @@ fit_with s c n = record {
 }
 
 -- Fit: not refused, number and table are 0; refused, the verdict is no and the rounds are 0.
-abbrev pub fit_reply : Compatibility → FitReply
-fit_reply (compatibility.Decided c n) = fit_with accepted_status c n
-fit_reply (compatibility.Refused r) = fit_with (status_of r) false 0
+abbrev pub fit_reply : Result Compatibility Refusal → FitReply
+fit_reply (Ok c) = fit_with accepted_status c.compatible c.rounds
+fit_reply (Err r) = fit_with (status_of r) false 0
 
 -- The fields of a reply, from the status and the verdict.
 abbrev pub refine_with : Status → Bool → RefineReply
@@ -41,9 +37,9 @@ refine_with s v = record {
 }
 
 -- Refinement: not refused, number and table are 0; refused, the verdict is no.
-abbrev pub refine_reply : Refined → RefineReply
-refine_reply (refined.Decided v) = refine_with accepted_status v
-refine_reply (refined.Refused r) = refine_with (status_of r) false
+abbrev pub refine_reply : Result Bool Refusal → RefineReply
+refine_reply (Ok v) = refine_with accepted_status v
+refine_reply (Err r) = refine_with (status_of r) false
 
 -- The fields of a reply, from the status, whether the follower moved, and the state that it is in now.
 abbrev pub follow_with : Status → Bool → ℕ → FollowReply
@@ -58,13 +54,13 @@ follow_with s m to = record {
 }
 
 -- The follower at a state: moved, the new state; "not now" or refused, the state as it was given.
-abbrev pub monitor_reply : ℕ → Followed → FollowReply
-monitor_reply state (followed.Moved to) = follow_with accepted_status true to
-monitor_reply state followed.NotNow = follow_with accepted_status false state
-monitor_reply state (followed.Refused r) = follow_with (status_of r) false state
+abbrev pub monitor_reply : ℕ → Result (Option ℕ) Refusal → FollowReply
+monitor_reply state (Ok (Some to)) = follow_with accepted_status true to
+monitor_reply state (Ok None) = follow_with accepted_status false state
+monitor_reply state (Err r) = follow_with (status_of r) false state
 
 -- The state that the follower's record holds after a signal.
-abbrev pub state_after : ℕ → Followed → ℕ
-state_after state (followed.Moved to) = to
-state_after state followed.NotNow = state
-state_after state (followed.Refused r) = state
+abbrev pub state_after : ℕ → Result (Option ℕ) Refusal → ℕ
+state_after state (Ok (Some to)) = to
+state_after state (Ok None) = state
+state_after state (Err r) = state

@@ -1,5 +1,5 @@
 // The C boundary (document 01, "The parts we ship"; 02, S-5): fit, the count of kept flags, refinement and follower on numbers and byte buffers,
-// where a cell is two bytes, low byte first. include/moqresam.h says the same to C.
+// where a cell is two bytes, low byte first. include/moqresam.h says the same to C, and so each call takes a table's numbers one by one.
 #![tactic(auto)]
 
 ghost use Rattle.std.specs.Prelude.{◌≡◌, length};
@@ -8,131 +8,11 @@ ghost use Rattle.table.specs.Contract.{follow_reply};
 ghost use Rattle.compatibility.specs.Contract.{compatibility_reply, compatibility_flags};
 ghost use Rattle.refinement.specs.Contract.{refinement_reply, refinement_marks};
 ghost use Rattle.packed.specs.Bytes.{table_of_bytes};
-ghost use Rattle.moqresam.specs.Contract.{fit_with, refine_with, follow_with, fit_reply, refine_reply, monitor_reply, state_after};
+ghost use Rattle.moqresam.specs.Contract.{fit_reply, refine_reply, monitor_reply, state_after};
 
-use compatibility::Compatibility;
-use refinement::Refined;
-use table::{Followed, Status};
+use replies::{FitReply, FollowReply, RefineReply};
 
-// Reply of `moqresam_fit`: the number of the refusal and the table at fault, both 0 if nothing is refused; the verdict; how many rounds drop a
-// pair; whether the refusal names a cell, and the state and signal of that cell, 0 if it names none.
-#[repr(C)]
-#[derive(Clone, Copy)]
-pub struct FitReply {
-    pub number: u32,
-    pub table: u32,
-    pub compatible: bool,
-    pub rounds: usize,
-    pub placed: bool,
-    pub cell_state: usize,
-    pub cell_signal: usize,
-}
-
-// Reply of `moqresam_refine`: the number of the refusal and the table at fault, both 0 if nothing is refused; the verdict; whether the refusal
-// names a cell, and the state and signal of that cell, 0 if it names none.
-#[repr(C)]
-#[derive(Clone, Copy)]
-pub struct RefineReply {
-    pub number: u32,
-    pub table: u32,
-    pub refines: bool,
-    pub placed: bool,
-    pub cell_state: usize,
-    pub cell_signal: usize,
-}
-
-// Reply of the follower: the number of the refusal and the table at fault, both 0 if nothing is refused; whether it moved, and the state that it is
-// in now; whether the refusal names a cell, and the state and signal of that cell, 0 if it names none.
-#[repr(C)]
-#[derive(Clone, Copy)]
-pub struct FollowReply {
-    pub number: u32,
-    pub table: u32,
-    pub moved: bool,
-    pub state: usize,
-    pub placed: bool,
-    pub cell_state: usize,
-    pub cell_signal: usize,
-}
-
-// Makes a reply of fit; the status says whether it is refused, and where.
-fn fit_with(s: Status, compatible: bool, rounds: usize) -> FitReply
-    ensures { result ≡ fit_with s compatible rounds }
-{
-    FitReply {
-        number: s.number,
-        table: s.table,
-        compatible,
-        rounds,
-        placed: s.placed,
-        cell_state: s.state,
-        cell_signal: s.action,
-    }
-}
-
-// Makes a reply of refinement; the status says whether it is refused, and where.
-fn refine_with(s: Status, refines: bool) -> RefineReply
-    ensures { result ≡ refine_with s refines }
-{
-    RefineReply {
-        number: s.number,
-        table: s.table,
-        refines,
-        placed: s.placed,
-        cell_state: s.state,
-        cell_signal: s.action,
-    }
-}
-
-// Makes a reply of the follower; the status says whether it is refused, and where.
-fn follow_with(s: Status, moved: bool, state: usize) -> FollowReply
-    ensures { result ≡ follow_with s moved state }
-{
-    FollowReply {
-        number: s.number,
-        table: s.table,
-        moved,
-        state,
-        placed: s.placed,
-        cell_state: s.state,
-        cell_signal: s.action,
-    }
-}
-
-// Turns the library's reply to fit into the one for C.
-fn fit_reply(c: Compatibility) -> FitReply
-    ensures { result ≡ fit_reply c }
-{
-    match c {
-        Compatibility::Decided { compatible, rounds } => fit_with(
-            table::accepted(),
-            compatible,
-            rounds,
-        ),
-        Compatibility::Refused(r) => fit_with(table::status_of(r), false, 0),
-    }
-}
-
-// Turns the library's reply to refinement into the one for C.
-fn refine_reply(c: Refined) -> RefineReply
-    ensures { result ≡ refine_reply c }
-{
-    match c {
-        Refined::Decided(refines) => refine_with(table::accepted(), refines),
-        Refined::Refused(r) => refine_with(table::status_of(r), false),
-    }
-}
-
-// Turns the library's reply of the follower at `state` into the one for C.
-fn follow_reply(state: usize, f: Followed) -> FollowReply
-    ensures { result ≡ monitor_reply state f }
-{
-    match f {
-        Followed::Moved(to) => follow_with(table::accepted(), true, to),
-        Followed::NotNow => follow_with(table::accepted(), false, state),
-        Followed::Refused(r) => follow_with(table::status_of(r), false, state),
-    }
-}
+mod replies;
 
 // Record of a follower, which the caller lends: its state.
 #[repr(C)]
@@ -168,7 +48,7 @@ pub extern "C" fn moqresam_fit(
 {
     let a = table::header(states_a, initial_a, inputs_a, outputs_a);
     let b = table::header(states_b, initial_b, inputs_b, outputs_b);
-    fit_reply(packed::fit(a, cells_a, b, cells_b, flags))
+    FitReply::from(packed::fit(a, cells_a, b, cells_b, flags))
 }
 
 // Counts the flags that are 1, in a buffer of any length.
@@ -206,7 +86,7 @@ pub extern "C" fn moqresam_refine(
 {
     let a = table::header(states_a, initial_a, inputs_a, outputs_a);
     let b = table::header(states_b, initial_b, inputs_b, outputs_b);
-    refine_reply(packed::refine(a, cells_a, b, cells_b, marks))
+    RefineReply::from(packed::refine(a, cells_a, b, cells_b, marks))
 }
 
 // Makes one step of the follower from a state by a signal. The reply has the new state; at "not now" or a refusal, the state given.
@@ -223,7 +103,7 @@ pub extern "C" fn moqresam_follow(
     ensures { result ≡ monitor_reply state (follow_reply (table_of_bytes states initial inputs outputs cells.now) state signal) }
 {
     let a = table::header(states, initial, inputs, outputs);
-    follow_reply(state, packed::follow(a, cells, state, signal))
+    replies::follow_reply(state, packed::follow(a, cells, state, signal))
 }
 
 // Makes one step of the follower whose record the caller lends, and moves the record; at "not now" or a refusal the record stays as it was.

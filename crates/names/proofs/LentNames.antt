@@ -1,29 +1,28 @@
 -- The questions about names, as loops over a set answer them.
 use mathlib.Core.Path.{◌≡◌, refl, sym, ap, subst, ◌∙◌}
 use mathlib.Core.Logic.{inl, inr}
-use mathlib.Core.Bool.{Bool, true, false, not, ◌&&◌}
+use mathlib.Core.Bool.{Bool, true, false, not, ◌&&◌, ◌||◌, cond}
 use mathlib.Core.List.{List, [], ◌∷◌}
-use Prim.Native.Nat.{ℕ, zero, suc, ◌-◌, ◌^◌, ◌≤◌, ◌<◌}
+use Prim.Native.Nat.{ℕ, zero, suc, ◌^◌, ◌≤◌, ◌<◌}
 use native.Mathlib.Omega.{arith}
 use native.Mathlib.Decide.{dec_lt}
 use denote.Ref.{Bor}
-use lib.Count.{count_trailing_zeros}
-use lib.Dec.{T, eqb}
+use lib.Bits.{bit_or}
+use lib.Dec.{T, eqb, ltb}
 use lib.ListN.{length, get_or, length-map, get_or-eq_default}
-use borrow.Author.Tests.{not-false}
+use borrow.Author.Tests.{not-false, lt-ltb}
 use Rattle.theory.specs.Bounded.{any}
 use Rattle.theory.specs.Sets.{has}
 use Rattle.theory.proofs.Bounded.{any_at, at-any}
 use Rattle.theory.proofs.Tests.{is_false, is_true, and_left, and_right, and_both}
-use Rattle.theory.proofs.Sets.{has-lt}
-use Rattle.sets.proofs.Members.{has-none}
-use Rattle.sets.proofs.Visit.{low, Turn, turn_cases, turn-above}
+use Rattle.sets.proofs.Membership.{has_insert}
+use Rattle.sets.proofs.Visit.{Turn, turn_cases}
 use Rattle.lines.proofs.NameRule.{name-short}
 use Rattle.text.specs.declared.Spelling.{Spelling}
 use Rattle.text.specs.declared.Spelling.TheVariants.{Exact, Folded}
 use Rattle.text.specs.Fields.{matches, name_ok}
 use Rattle.text.specs.Writing.{name_of}
-use Rattle.text.proofs.Names.{same-match}
+use Rattle.text.proofs.Names.{match_sym, same-match}
 use Rattle.names.specs.LentNames.{texts, any_of, repeated, Named}
 
 -- ---- the lent names
@@ -35,6 +34,9 @@ name-lent (x ∷ l) (suc i) d h = name-lent l i d (omega arith)
 
 pub lent_length : (l : List (Bor (List ℕ))) → length (texts l) ≡ length l
 lent_length l = length-map l (λ (x : Bor (List ℕ)). x.now)
+
+pub named-entry : (l : List (Bor (List ℕ))) (set : ℕ) → Named set (texts l) → (a : ℕ) → a < 32 → T (has set a) → a < length l
+named-entry l set n a h m = omega (arith, n.entry a h m, lent_length l)
 
 no_name : (names : List (List ℕ)) (i : ℕ) → length names ≤ i → name_of names i ≡ []
 no_name names i h = get_or-eq_default names [] {n = i} h
@@ -61,23 +63,11 @@ module _ (set : ℕ) (names : List (List ℕ)) (e : any_of set (λ (a : ℕ). no
 pub named-part : (names : List (List ℕ)) (set part : ℕ) → ((a : ℕ) → T (has part a) → T (has set a)) → Named set names → Named part names
 named-part names set part inside n = record { entry = λ a k h. n.entry a k (inside a h); short = λ a k h. n.short a k (inside a h) }
 
-module _ (names : List (List ℕ)) (left : ℕ) (bound : left < 2 ^ 32) (some : ¬ (left ≡ 0)) (n : Named left names) where
-  pub named-lowest : count_trailing_zeros 32 left < length names
-  named-lowest = let k = low 32 left (omega arith) bound in n.entry _ k.lowest.below k.lowest.passes
-
-  pub named-rest : Named (left - 2 ^ count_trailing_zeros 32 left) names
-  named-rest =
-      let k = low 32 left (omega arith) bound in
-      named-part names left (left - 2 ^ count_trailing_zeros 32 left) (λ a h. and_left (has left a) (not (eqb a (count_trailing_zeros 32 left))) (subst T (k.rest a) h)) n
-
 -- ---- a question about the members of a set: none of those visited passes, until one does or all are visited
 
 module _ (f : ℕ → Bool) where
   abbrev pub None : ℕ → Type 0
   None visited = (a : ℕ) → T (has visited a) → f a ≡ false
-
-  pub none-start : None 0
-  none-start a t = absurd (subst T (has-none a) t)
 
   pub none-turn : {set visited s visited' left' : ℕ} → Turn set visited s visited' left' → f s ≡ false → None visited → None visited'
   none-turn t e n a h = elim (turn_cases t a h) [ inl v ↦ n a v | inr q ↦ rw q e ]
@@ -144,39 +134,43 @@ module _ (c : Spelling) (names : List (List ℕ)) where
         match = and_right (has set a && has set b) (alike a b) v;
       }
 
-  -- No name of a member visited matches that of a higher member.
-  pub record Apart (set visited : ℕ) : Type 0 where
-    pub apart : (a b : ℕ) → T (has visited b) → T (has set a) → b < a → ¬ T (alike a b)
+  -- The members visited are those before, and no two names of theirs match.
+  pub record Apart (set before visited : ℕ) : Type 0 where
+    pub same : (b : ℕ) → has before b ≡ has visited b
+    pub within : (b : ℕ) → T (has visited b) → T (has set b)
+    pub apart : (a b : ℕ) → T (has visited a) → T (has visited b) → b < a → ¬ T (alike a b)
 
-  pub apart-start : (set : ℕ) → Apart set 0
-  apart-start set = record { apart = λ a b t. absurd (subst T (has-none b) t) }
+  pub apart-end : (set before : ℕ) → Apart set before set → false ≡ repeated c set names
+  apart-end set before n = sym (is_false (repeated c set names) (λ h. let p = find set h in n.apart p.a p.b p.first p.second p.below p.match))
 
-  pub apart-end : (set : ℕ) → Apart set set → false ≡ repeated c set names
-  apart-end set n = sym (is_false (repeated c set names) (λ h. let p = find set h in n.apart p.a p.b p.second p.first p.below p.match))
-
-  -- The name of one more member is held against those above it.
-  module _ {set visited s visited' left' : ℕ} (bound : set < 2 ^ 32) (t : Turn set visited s visited' left') (name : List ℕ) (named : name ≡ name_of names s) (r : Bool)
-      (taken : r ≡ any_of left' (λ (a : ℕ). matches c (name_of names a) name)) where
-    pub apart-turn : r ≡ false → Apart set visited → Apart set visited'
+  -- The name of one more member is held against those before it.
+  module _ {set before visited s visited' left' : ℕ} (t : Turn set visited s visited' left') (n : Apart set before visited) (name : List ℕ) (named : name ≡ name_of names s) (r : Bool)
+      (taken : r ≡ any_of before (λ (a : ℕ). matches c (name_of names a) name)) where
+    pub apart-turn : r ≡ false → (more : ℕ) → more ≡ cond (ltb s 32) (bit_or before (2 ^ s)) before → Apart set more visited'
     unfolding any_of
-    apart-turn e n = record {
-      apart = λ a b h m l. elim (turn_cases t b h) [
-        | inl v ↦ n.apart a b v m l
-        | inr q ↦ λ x.
-            let u : T (has left' a) = turn-above t a m (omega arith) in
-            let y : T (matches c (name_of names a) name) = rw (named, ← q) x in
-            subst T (sym taken ∙ e)
-            (at-any 32 (λ a. has left' a && matches c (name_of names a) name) a (has-lt 32 set a bound m) (and_both (has left' a) (matches c (name_of names a) name) u y))
+    apart-turn e more f = record {
+      same = λ b. ap (λ x. has x b) (f ∙ ap (λ v. cond v (bit_or before (2 ^ s)) before) (lt-ltb s 32 t.below)) ∙ has_insert before s b ∙ ap (λ v. v || eqb b s) (n.same b) ∙ sym (t.grown b);
+      within = λ b h. elim (turn_cases t b h) [ inl v ↦ n.within b v | inr q ↦ rw q t.member ];
+      apart = λ a b h k l x. elim (turn_cases t a h) [
+        | inl v ↦ elim (turn_cases t b k) [ inl w ↦ n.apart a b v w l x | inr q ↦ omega (arith, t.lower a v) ]
+        | inr p ↦ elim (turn_cases t b k) [
+          | inl w ↦
+              let y : T (matches c (name_of names b) name) = subst T (match_sym c (name_of names a) (name_of names b) ∙ rw (named, p)) x in
+              subst T (sym taken ∙ e)
+              (at-any 32 (λ a. has before a && matches c (name_of names a) name) b (omega (arith, t.lower b w, t.below))
+              (and_both (has before b) (matches c (name_of names b) name) (subst T (sym (n.same b)) w) y))
+          | inr q ↦ omega arith
+        ]
       ];
     }
 
     pub apart-found : r ≡ true → true ≡ repeated c set names
     unfolding any_of
     apart-found e =
-        let (a, l, b) = any_at 32 (λ a. has left' a && matches c (name_of names a) name) (subst T (sym e ∙ taken) tt) in
-        let u : T (has left' a) = and_left (has left' a) (matches c (name_of names a) name) b in
-        let x : T (alike a s) = rw (← named) (and_right (has left' a) (matches c (name_of names a) name) b) in
-        sym (is_true (repeated c set names) (found set a s l (t.higher a u) (t.inside a u) t.member x))
+        let (b, l, h) = any_at 32 (λ a. has before a && matches c (name_of names a) name) (subst T (sym e ∙ taken) tt) in
+        let w : T (has visited b) = subst T (n.same b) (and_left (has before b) (matches c (name_of names b) name) h) in
+        let x : T (alike s b) = subst T (match_sym c (name_of names b) (name_of names s)) (rw (← named) (and_right (has before b) (matches c (name_of names b) name) h)) in
+        sym (is_true (repeated c set names) (found set s b t.below (t.lower b w) t.member (n.within b w) x))
 
 -- Where no two names are the same when the case of letters is ignored, no two are equal.
 pub exact_none : (names : List (List ℕ)) (set : ℕ) → repeated Folded set names ≡ false → repeated Exact set names ≡ false

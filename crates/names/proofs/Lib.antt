@@ -1,4 +1,3 @@
-pub mod NamePlaces
 pub mod NumberedNames
 pub mod Listed
 pub mod LentNames

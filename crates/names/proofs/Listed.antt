@@ -10,7 +10,7 @@ use lib.Dec.{T, eqb}
 use borrow.Author.Tests.{eq-eqb, ne_eqb}
 use Rattle.theory.proofs.Tests.{is_true, is_false}
 use Rattle.theory.specs.Sets.{has}
-use Rattle.sets.proofs.Members.{has-none}
+use Rattle.sets.proofs.Membership.{has-none}
 use Rattle.sets.proofs.Visit.{low}
 use Rattle.text.specs.Writing.{those}
 use Rattle.text.proofs.Ascending.{those-none}

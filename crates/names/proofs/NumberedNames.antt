@@ -1,6 +1,6 @@
 -- Names by their places in two texts: the key of a name, finding one, adding one.
 use mathlib.Core.Path.{◌≡◌, refl, sym, ap, subst, ◌∙◌}
-use mathlib.Core.Bool.{Bool, true, false, ◌&&◌, cond, or-true}
+use mathlib.Core.Bool.{Bool, true, false, ◌&&◌, cond}
 use mathlib.Core.List.{List, [], ◌∷◌, ◌++◌, map, map-append}
 use Prim.Native.Nat.{ℕ, zero, suc, ◌+◌, ◌-◌, ◌*◌, ◌/◌, ◌%◌, ◌<◌, ◌≤◌, min}
 use native.Mathlib.Numerals.{add-one}
@@ -9,36 +9,19 @@ use native.Mathlib.Decide.{dec_lt}
 use lib.Dec.{T, eqb, ltb, leb}
 use lib.ListN.{length, take, drop, get_or, set, replicate, length-map, length-append, length-replicate, drop_of_length-le, get_or-map, get_or-eq_default}
 use lib.Seq.{drop-cons, get_or-take, length-take-le, take-suc-set, take_all}
-use borrow.Author.Tests.{eq-eqb, ne_eqb, eqb-true, lt-ltb, le-ltb, le-leb, lt-leb}
+use borrow.Author.Tests.{eq-eqb, eqb-true, lt-ltb, le-ltb, lt-leb}
 use Rattle.theory.proofs.Tests.{is_true, and_left, and_right}
 use Rattle.text.specs.declared.Spelling.{Spelling}
 use Rattle.text.specs.declared.Spelling.TheVariants.{Exact, Folded}
 use Rattle.text.specs.Fields.{spelled, matches}
 use Rattle.text.specs.Reading.{Signal, text_of, first_match, known}
 use Rattle.text.specs.Lookup.{nobody}
-use Rattle.lines.specs.Places.{place_in}
 use Rattle.names.specs.declared.Name.{Name}
 use Rattle.names.specs.declared.Names.{Names}
-use Rattle.names.specs.NamePlaces.{text_in, name_at}
-use Rattle.names.specs.Numbering.{from_end, key, unused, entry_at, entries_of, signal_at, signals_of, entry_of, table_of, Fit, position, is_of, with_entry}
+use Rattle.names.specs.NamePlaces.{name_at}
+use Rattle.names.specs.Numbering.{from_end, key, unused, entry_at, entries_of, signal_at, signals_of, entry_of, table_of, Fit, first_place, is_of, with_entry}
 
 -- ---- the key of a name
-
-pub from-end-none : (k : ℕ) (s : List ℕ) → length s < k → 0 ≡ from_end k s
-unfolding from_end
-from-end-none k s h = rw (lt-ltb (length s) k h)
-
-pub from_end_byte : (k : ℕ) (s : List ℕ) → k ≤ length s → (r : ℕ) → r ≡ get_or s (length s - k) 0 → r ≡ from_end k s
-unfolding from_end
-from_end_byte k s h r e = e ∙ rw (le-ltb (length s) k h)
-
-pub key-made : (s : List ℕ) (a b : ℕ) → a ≡ from_end 1 s → b ≡ from_end 2 s → a % 32 + b % 8 * 32 ≡ key s
-unfolding key
-key-made s a b e f = rw (e, f)
-
-pub entry-made : (place from k : ℕ) (s : List ℕ) → k ≡ key s
-    → ◌≡◌ {A = Name} (record { place = place; key = k; from = from }) (record { place = place; key = key s; from = from })
-entry-made place from k s e = rw e
 
 -- The last five bits of a letter are those of its other case.
 spelled-mod : (c : Spelling) (x : ℕ) → spelled c x % 32 ≡ x % 32
@@ -103,46 +86,36 @@ module _ (c : Spelling) where
 
 -- ---- the first that passes a test
 
-module _ {A : Type 0} (f : A → Bool) (l : List A) (i : ℕ) (inv : i + position f (drop i l) ≡ position f l) where
+module _ {A : Type 0} (f : A → Bool) (l : List A) (i : ℕ) (inv : i + first_place f (drop i l) ≡ first_place f l) where
   module _ (d : A) (h : i < length l) where
-    pub position_here : f (get_or l i d) ≡ true → i ≡ position f l
-    unfolding position
+    pub position_here : f (get_or l i d) ≡ true → i ≡ first_place f l
+    unfolding first_place
     position_here e =
-        let z : position f (drop i l) ≡ 0 = ap (position f) (drop-cons l i d h) ∙ rw e in
+        let z : first_place f (drop i l) ≡ 0 = ap (first_place f) (drop-cons l i d h) ∙ rw e in
         omega arith
 
-    pub position-next : f (get_or l i d) ≡ false → i + 1 + position f (drop (i + 1) l) ≡ position f l
-    unfolding position
+    pub position-next : f (get_or l i d) ≡ false → i + 1 + first_place f (drop (i + 1) l) ≡ first_place f l
+    unfolding first_place
     position-next e =
-        let z : position f (drop i l) ≡ suc (position f (drop (i + 1) l)) = ap (position f) (drop-cons l i d h) ∙ rw (e, add-one i) in
+        let z : first_place f (drop i l) ≡ suc (first_place f (drop (i + 1) l)) = ap (first_place f) (drop-cons l i d h) ∙ rw (e, add-one i) in
         omega arith
 
-  pub position-none : length l ≤ i → i ≡ position f l
-  unfolding position
+  pub position-none : length l ≤ i → i ≡ first_place f l
+  unfolding first_place
   position-none h =
-      let z : position f (drop i l) ≡ 0 = ap (position f) (drop_of_length-le l {i = i} h) in
+      let z : first_place f (drop i l) ≡ 0 = ap (first_place f) (drop_of_length-le l {i = i} h) in
       omega arith
 
 -- ---- while a name is looked for: those before the entry i are other names
 
-pub is-other : (x k : ℕ) (b : Bool) → (x ≡ k → ⊥) → false ≡ (eqb x k && b)
-is-other x k b d = rw (ne_eqb x k d)
-
-pub is_same : (c : Spelling) (x k : ℕ) (b name wanted : List ℕ) (r : Bool) → x ≡ k → b ≡ name → r ≡ matches c b wanted → r ≡ (eqb x k && matches c name wanted)
-is_same c x k b name wanted r e f g = g ∙ rw (eq-eqb x k e, f)
-
--- An array is as long as the list that its elements are made to.
-pub full : {B : Type 0} (f : Name → B) (l : List Name) (n : ℕ) → length (map f l) ≡ n → length l ≡ n
-full f l n e = sym (length-map l f) ∙ e
-
 module _ (m p : List ℕ) (c : Spelling) (wanted : List ℕ) (k : ℕ) (keys : k ≡ key wanted) (entries : List Name) (size : length entries ≡ 32)
     (count : ℕ) (few : count ≤ 32) (i : ℕ)
-    (before : i + position (is_of m p c wanted) (drop i (take count entries)) ≡ position (is_of m p c wanted) (take count entries)) where
+    (before : i + first_place (is_of m p c wanted) (drop i (take count entries)) ≡ first_place (is_of m p c wanted) (take count entries)) where
   within : length (take count entries) ≡ count
   within = length-take-le count entries (omega arith)
 
   -- What is found among those that are used is found among as many as are counted.
-  counted : (n : ℕ) → count ≡ min n 32 → i ≡ position (is_of m p c wanted) (take count entries) → i ≡ position (is_of m p c wanted) (take n entries)
+  counted : (n : ℕ) → count ≡ min n 32 → i ≡ first_place (is_of m p c wanted) (take count entries) → i ≡ first_place (is_of m p c wanted) (take n entries)
   counted n e f = elim (dec_lt n 32) [
     | yes h ↦ let z : count ≡ n = omega arith in rw (← z) f
     | no h ↦ rw (take_all n entries (omega arith)) (rw (take_all count entries (omega arith)) at f)
@@ -152,13 +125,13 @@ module _ (m p : List ℕ) (c : Spelling) (wanted : List ℕ) (k : ℕ) (keys : k
     of_entry : is_of m p c wanted (get_or (take count entries) i d) ≡ r
     of_entry = rw (get_or-take count entries i d h, ← keys) (sym told)
 
-    pub find-here : r ≡ true → (n : ℕ) → count ≡ min n 32 → i ≡ position (is_of m p c wanted) (take n entries)
+    pub find-here : r ≡ true → (n : ℕ) → count ≡ min n 32 → i ≡ first_place (is_of m p c wanted) (take n entries)
     find-here e n f = counted n f (position_here (is_of m p c wanted) (take count entries) i before d (omega (arith, within)) (of_entry ∙ e))
 
-    pub find-next : r ≡ false → i + 1 + position (is_of m p c wanted) (drop (i + 1) (take count entries)) ≡ position (is_of m p c wanted) (take count entries)
+    pub find-next : r ≡ false → i + 1 + first_place (is_of m p c wanted) (drop (i + 1) (take count entries)) ≡ first_place (is_of m p c wanted) (take count entries)
     find-next e = position-next (is_of m p c wanted) (take count entries) i before d (omega (arith, within)) (of_entry ∙ e)
 
-  pub find_none : count ≤ i → (n : ℕ) → count ≡ min n 32 → i ≡ position (is_of m p c wanted) (take n entries)
+  pub find_none : count ≤ i → (n : ℕ) → count ≡ min n 32 → i ≡ first_place (is_of m p c wanted) (take n entries)
   find_none h n f = counted n f (position-none (is_of m p c wanted) (take count entries) i before (omega (arith, within)))
 
 -- ---- adding
@@ -166,10 +139,6 @@ module _ (m p : List ℕ) (c : Spelling) (wanted : List ℕ) (k : ℕ) (keys : k
 pub add-known : (s : Names) (n : Name) (number : ℕ) → number < s.count → s ≡ with_entry s n number
 unfolding with_entry
 add-known s n number h = rw (lt-ltb number s.count h)
-
-pub add-full : (s : Names) (n : Name) (number : ℕ) → 32 ≤ s.count → s ≡ with_entry s n number
-unfolding with_entry
-add-full s n number h = rw (le-leb 32 s.count h, or-true (ltb number s.count))
 
 pub add-new : (s : Names) (n : Name) (number : ℕ) → s.count ≤ number → s.count < 32
     → ◌≡◌ {A = Names} (record { entries = set s.entries s.count n; count = s.count + 1 }) (with_entry s n number)
@@ -206,15 +175,6 @@ get_front [] k i u = get_same k i u
 get_front (x ∷ l) k zero u = refl
 get_front (x ∷ l) k (suc i) u = get_front l k i u
 
-pub entry_beyond : (s : Names) (number : ℕ) → length s.entries ≡ 32 → 32 ≤ number → (n : Name) → n ≡ unused → n ≡ entry_at s number
-entry_beyond s number size h n e = e ∙ sym (get_or-eq_default s.entries unused (omega arith))
-
--- The part of an entry is the part of one that is the same.
-pub part_same : (m p : List ℕ) (x y : ℕ × ℕ) (n n' : Name) → n ≡ n' → (b : List ℕ) (place : ℕ × ℕ)
-    → (b ≡ name_at m p n) × (place ≡ place_in (text_of x y (text_in n)) (text_of m p (text_in n)) n.from)
-    → (b ≡ name_at m p n') × (place ≡ place_in (text_of x y (text_in n')) (text_of m p (text_in n')) n'.from)
-part_same m p x y n n' e b place w = rw e at w
-
 -- The name of a number in the table of some signals that stand in the texts.
 pub part-name : (m p : List ℕ) (s : Names) → s ≡ table_of (signals_of m p s) → (a : ℕ) → name_at m p (entry_at s a) ≡ (get_or (signals_of m p s) a nobody).name
 unfolding signals_of
@@ -231,8 +191,8 @@ part-name m p s is a = elim (dec_lt a s.count) [
 
 module _ (m p : List ℕ) where
   -- The entries of signals, looked through, are the signals.
-  find-among : (c : Spelling) (w : List ℕ) (l : List Signal) → map (signal_at m p) (map entry_of l) ≡ l → position (is_of m p c w) (map entry_of l) ≡ first_match c w l
-  unfolding position first_match
+  find-among : (c : Spelling) (w : List ℕ) (l : List Signal) → map (signal_at m p) (map entry_of l) ≡ l → first_place (is_of m p c w) (map entry_of l) ≡ first_match c w l
+  unfolding first_place first_match
   find-among c w [] e = refl
   find-among c w (x ∷ l) e =
       let name : name_at m p (entry_of x) ≡ x.name = ap (λ k. (get_or k 0 x).name) e in
@@ -266,8 +226,8 @@ module _ (m p : List ℕ) where
     signal-at d i h = get_or-map (signal_at m p) (entries_of s) i d ∙ ap (signal_at m p) (get_or-take s.count s.entries i d h)
 
     -- Finding a name in the table is finding it among the signals.
-    pub find-signal : (c : Spelling) (w : List ℕ) → position (is_of m p c w) (entries_of s) ≡ first_match c w signals
-    find-signal c w = ap (position (is_of m p c w)) entries-are ∙ find-among c w signals stands
+    pub find-signal : (c : Spelling) (w : List ℕ) → first_place (is_of m p c w) (entries_of s) ≡ first_match c w signals
+    find-signal c w = ap (first_place (is_of m p c w)) entries-are ∙ find-among c w signals stands
 
     module _ (n : Name) (placed : n ≡ entry_of (signal_at m p n)) (number : ℕ) (low : number ≤ s.count) (below : number < 32) where
       same : number < s.count → with_entry s n number ≡ s

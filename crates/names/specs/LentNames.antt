@@ -10,6 +10,7 @@ use Rattle.text.specs.declared.Spelling.{Spelling}
 use Rattle.text.specs.declared.Spelling.TheVariants.{Exact, Folded}
 use Rattle.text.specs.Fields.{matches, name_ok}
 use Rattle.text.specs.Writing.{name_of, misnamed, ambiguous}
+use Rattle.theory.specs.declared.Rule.TheVariants as rule
 
 -- The parts that a list of references lends.
 abbrev pub texts : List (Bor (List ℕ)) → List (List ℕ)
@@ -32,5 +33,5 @@ pub record Named (set : ℕ) (names : List (List ℕ)) : Type 0 where
 
 unfoldable pub name_checks : Automaton → List ℕ → List (List ℕ) → List Check
 name_checks a name names =
-    unplaced 16 0 (not (name_ok name)) ∷ unplaced 16 0 (misnamed (table a []) name names) ∷ unplaced 18 0 (ambiguous (table a []) name names Exact)
-    ∷ unplaced 28 0 (ambiguous (table a []) name names Folded) ∷ []
+    unplaced rule.NameForm 0 (not (name_ok name)) ∷ unplaced rule.NameForm 0 (misnamed (table a []) name names) ∷ unplaced rule.DeclaredTwice 0 (ambiguous (table a []) name names Exact)
+    ∷ unplaced rule.NameClash 0 (ambiguous (table a []) name names Folded) ∷ []

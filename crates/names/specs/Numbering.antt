@@ -53,9 +53,9 @@ pub record Fit (m p : List ℕ) (s : Names) : Type 0 where
 -- ---- finding a name, adding one
 
 -- The place of the first element that passes the test; behind the last where none does.
-unfoldable pub position : {A : Type 0} → (A → Bool) → List A → ℕ
-position f [] = 0
-position f (x ∷ l) = cond (f x) 0 (suc (position f l))
+unfoldable pub first_place : {A : Type 0} → (A → Bool) → List A → ℕ
+first_place f [] = 0
+first_place f (x ∷ l) = cond (f x) 0 (suc (first_place f l))
 
 -- An entry has the key of the wanted name, and its name matches that in a spelling.
 abbrev pub is_of : List ℕ → List ℕ → Spelling → List ℕ → Name → Bool

@@ -20,7 +20,8 @@ pub struct Name {
     pub from: u16,
 }
 
-// Table of the names that have a number, by number: the first `count` entries; the others are not used.
+// Table of the names that have a number, by number: the first `count` entries; the others are not used. It is an array with a count, since nothing is
+// allocated.
 #[derive(Clone, Copy)]
 pub struct Names {
     pub entries: [Name; 32],

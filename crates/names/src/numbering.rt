@@ -1,10 +1,10 @@
 // Numbers names as they are declared: makes the entry of a name, adds it to a table of names, and finds a name's number there.
-ghost use Rattle.std.specs.Prelude.{◌≡◌, ◌&&◌, [], ◌+◌, ◌*◌, ◌%◌, ◌<◌, min, eqb, length};
+ghost use Rattle.std.specs.Prelude.{◌≡◌, ◌&&◌, [], ◌+◌, ◌*◌, ◌%◌, ◌<◌, eqb, length};
 ghost use Rattle.lines.specs.Places.{place_in};
 ghost use Rattle.text.specs.Fields.{matches};
 ghost use Rattle.text.specs.Reading.{text_of};
 ghost use Rattle.names.specs.NamePlaces.{text_in, name_at};
-ghost use Rattle.names.specs.Numbering.{from_end, key as key_of, unused as noName, entry_at, entries_of, position, is_of, table_of, with_entry};
+ghost use Rattle.names.specs.Numbering.{from_end, key as key_of, unused as noName, entry_at, entries_of, first_place, is_of, table_of, with_entry};
 
 use crate::{Name, Names};
 use text::Spelling;
@@ -24,17 +24,15 @@ fn unused() -> Name
 pub fn none() -> Names
     ensures { result ≡ table_of [] }
 {
+    let free = unused();
     Names {
-        entries: [Name {
-            place: 0,
-            key: 0,
-            from: 0,
-        }; 32],
+        entries: [free; 32],
         count: 0,
     }
 }
 
 // Returns the k-th byte from the end of s, the last one for 1; 0 if s is shorter.
+#[tactic(auto, unfolding(crate::specs::Numbering::from_end))]
 fn from_end(s: &[u8], k: usize) -> u8
     requires { 0 < k }
     ensures { result ≡ from_end k s.now }
@@ -46,6 +44,7 @@ fn from_end(s: &[u8], k: usize) -> u8
 }
 
 // Returns the key of a name, of the last bits of its last two bytes, which the case of a letter does not change.
+#[tactic(auto, unfolding(crate::specs::Numbering::key))]
 fn key(name: &[u8]) -> u8
     ensures { result ≡ key_of name.now }
 {
@@ -81,44 +80,27 @@ fn is_of<'a>(
     lines::matches(spelling, crate::bytes_of(m, p, entry), wanted)
 }
 
-// Counts the entries that are used.
-fn used(names: Names) -> usize
-    ensures { result ≡ min names.count 32 }
-{
-    if names.count < 32 {
-        return names.count;
-    }
-    32
-}
-
 // Finds the first name that equals `wanted` in this spelling: returns its number, or the next free number if there is none. An entry whose key is not
 // that of its name is passed over.
 pub fn find<'a>(m: &'a [u8], p: &'a [u8], spelling: Spelling, names: Names, wanted: &[u8]) -> usize
-    ensures { result ≡ position (is_of m.now p.now spelling wanted.now) (entries_of names) }
+    ensures { result ≡ first_place (is_of m.now p.now spelling wanted.now) (entries_of names) }
 {
     let key = key(wanted);
     let entries = names.entries;
-    let count = used(names);
-    let mut i: usize = 0;
-    while i < count {
-        let entry = entries[i];
-        if is_of(m, p, spelling, entry, wanted, key) {
+    let used = names.count.min(32);
+    for i in 0..used {
+        if is_of(m, p, spelling, entries[i], wanted, key) {
             return i;
         }
-        i += 1;
     }
-    i
+    used
 }
 
 // Returns the entry of a number; the one that is not used if there are not so many.
 fn entry_at(names: Names, number: usize) -> Name
     ensures { result ≡ entry_at names number }
 {
-    let entries = names.entries;
-    if number < 32 {
-        return entries[number];
-    }
-    unused()
+    names.entries.get(number).copied().unwrap_or(unused())
 }
 
 // Returns the name with this number as the part of its text where it stands; an empty part if no name has the number.
@@ -130,14 +112,12 @@ pub fn part<'a>(m: &'a [u8], p: &'a [u8], names: Names, number: usize) -> &'a [u
 }
 
 // Adds an entry under the next free number; changes nothing if `number` belongs to a name already, or if the table is full.
+#[tactic(auto, unfolding(crate::specs::Numbering::with_entry))]
 pub fn add(names: Names, entry: Name, number: usize) -> Names
     ensures { result ≡ with_entry names entry number }
 {
     let count = names.count;
-    if number < count {
-        return names;
-    }
-    if 32 <= count {
+    if number < count || 32 <= count {
         return names;
     }
     let mut entries = names.entries;

@@ -1,4 +1,5 @@
-// Hands back a text by its number, and a name as the part of its text where it stands.
+// Hands back a text by its number, and a name as the part of its text where it stands. The two texts go as m and p here and above, as in the calls that
+// lend them: a struct of both would be plainer in no contract, since the place of a part is said of each lent text.
 ghost use Rattle.std.specs.Prelude.{◌≡◌};
 ghost use Rattle.lines.specs.Places.{place_in};
 ghost use Rattle.text.specs.Reading.{text_of};
@@ -18,14 +19,14 @@ pub fn text_of<'a>(m: &'a [u8], p: &'a [u8], text: u32) -> &'a [u8]
 pub fn text_in(name: Name) -> u32
     ensures { result ≡ text_in name }
 {
-    (name.place % 4) as u32
+    u32::from(name.place % 4)
 }
 
 // Returns the length of a name.
 fn length_in(name: Name) -> usize
     ensures { result ≡ length_in name }
 {
-    (name.place / 4) as usize
+    usize::from(name.place / 4)
 }
 
 // Returns a name as the part of its text where it stands, as far as the text reaches.
@@ -33,6 +34,6 @@ pub fn bytes_of<'a>(m: &'a [u8], p: &'a [u8], name: Name) -> &'a [u8]
     ensures result_value { result.now ≡ name_at m.now p.now name }
     ensures ref_ptr_value { result.ref_ptr ≡ place_in (text_of m.entry.ref_ptr p.entry.ref_ptr (text_in name)) (text_of m.now p.now (text_in name)) name.from }
 {
-    let from = lines::after(text_of(m, p, text_in(name)), name.from as usize);
+    let from = lines::after(text_of(m, p, text_in(name)), usize::from(name.from));
     lines::before(from, length_in(name))
 }

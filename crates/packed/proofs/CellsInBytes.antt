@@ -5,8 +5,7 @@ use mathlib.Core.List.{List}
 use Prim.Native.Nat.{ℕ, ◌*◌, ◌/◌, ◌≤◌, ◌<◌}
 use native.Mathlib.Omega.{arith}
 use lib.Dec.{T, eqb, leb, eqb→eq, leb→le}
-use lib.ListN.{get_or, length, take}
-use lib.Seq.{length-take-le, get_or-take}
+use lib.ListN.{get_or, length}
 use borrow.Author.Tests.{eq-eqb, ne_eqb, le-leb, lt-leb}
 use Rattle.theory.proofs.Bounded.{length-tabulate, get_d_tabulate_zero}
 use Rattle.theory.proofs.Filled.{Filled, filled-all}
@@ -61,9 +60,8 @@ module _ (states : ℕ) (bytes : List ℕ) where
   unfolding cells_of_bytes
   cells_at k d h = get_d_tabulate_zero (cell_in bytes) (cell_count states (length bytes)) k d h
 
-  -- So many cells are written to the start of the room.
-  pub cells-written : (room : List ℕ) (n : ℕ) → n ≡ cell_count states (length bytes) → n ≤ length room → Filled 0 (cell_in bytes) room n
-      → take n room ≡ cells_of_bytes states bytes
+  -- So many cells are written to room of just that length.
+  pub cells-written : (room : List ℕ) → length room ≡ cell_count states (length bytes) → Filled 0 (cell_in bytes) room (cell_count states (length bytes))
+      → room ≡ cells_of_bytes states bytes
   unfolding cells_of_bytes
-  cells-written room n e h f =
-      rw (← e) (filled-all 0 (cell_in bytes) (take n room) n (length-take-le n room h) (λ j l. rw (get_or-take n room j 0 l) (f j l)))
+  cells-written room e f = filled-all 0 (cell_in bytes) room (cell_count states (length bytes)) e f

@@ -7,13 +7,13 @@ use native.Mathlib.Omega.{arith}
 use lib.Dec.{T, leb}
 use lib.ListN.{get_or, length}
 use borrow.Author.Tests.{eq-eqb, ne_eqb, le-ltb}
-use Rattle.theory.specs.declared.Location.TheVariants.{Cell}
 use Rattle.theory.specs.Bounded.{any}
 use Rattle.theory.specs.Table.{header, member}
-use Rattle.theory.specs.Checks.{first, refuse_at, check4, table_checks}
+use Rattle.theory.specs.Checks.{first, at_cell, refuse_at, check4, table_checks}
 use Rattle.theory.proofs.Checks.{lists-overlap}
 use Rattle.packed.specs.Bytes.{cells_of_bytes, table_of_bytes}
 use Rattle.packed.proofs.CellsInBytes.{count-other, count-all, cells_count, cells_at}
+use Rattle.theory.specs.declared.Rule.TheVariants as rule
 
 module _ (states : ℕ) (bytes : List ℕ) (few : states ≤ 4096) where
   -- Any byte count but states × 64 gets 4, and states × 64 does not.
@@ -25,8 +25,8 @@ module _ (states : ℕ) (bytes : List ℕ) (few : states ≤ 4096) where
   -- In 4's place of the order: 2 and 3 come before it, 5 and 6 after.
   pub four_in_place : (i initial inputs outputs : ℕ) → 0 < states → (length bytes ≡ states * 64 → ⊥)
       → first (table_checks i (table_of_bytes states initial inputs outputs bytes))
-      ≡ cond (leb states initial) (refuse_at 2 i (Cell 0 0))
-      (cond (any 32 (λ a. member inputs a && member outputs a)) (refuse_at 3 i (Cell 0 0)) (refuse_at 4 i (Cell 0 0)))
+      ≡ cond (leb states initial) (refuse_at rule.InitialState i (at_cell 0 0))
+      (cond (any 32 (λ a. member inputs a && member outputs a)) (refuse_at rule.CommonAction i (at_cell 0 0)) (refuse_at rule.CellCount i (at_cell 0 0)))
   unfolding first table_checks
   four_in_place i initial inputs outputs some other =
       rw (ne_eqb states 0 (λ e. omega arith), le-ltb 4096 states few, lists-overlap (header states initial inputs outputs), cells_count states bytes, ← count-other states (length bytes) few other, ne_eqb 0 (states * 32) (λ e. omega arith))

@@ -1,10 +1,8 @@
 -- A line of a text: what it says, and what it does to the reading.
 use mathlib.Core.Path.{◌≡◌, refl, sym, ap, ◌∙◌}
 use mathlib.Core.List.{List}
-use Prim.Native.Nat.{ℕ, ◌+◌, ◌-◌, ◌*◌, ◌%◌, ◌≤◌, ◌<◌}
+use Prim.Native.Nat.{ℕ, ◌+◌, ◌-◌, ◌*◌, ◌%◌, ◌<◌}
 use native.Mathlib.Omega.{arith}
-use mir.Syntax.{w64}
-use mir.Val.{Fits}
 use lib.ListN.{length, take, drop, length-drop}
 use Rattle.text.specs.declared.Role.{Role}
 use Rattle.text.specs.declared.Spelling.{Spelling}
@@ -12,35 +10,32 @@ use Rattle.text.specs.Lines.{role_word}
 use Rattle.text.specs.Reading.{text_of, entered}
 use Rattle.lines.specs.declared.Record.{Record}
 use Rattle.lines.specs.declared.Record.TheVariants.{Table, Declaration, Step}
-use Rattle.lines.specs.declared.Parsed.TheVariants.{Fields}
 use Rattle.lines.proofs.NameRule.{name-short}
 use Rattle.lines.proofs.Meaning.{DeclarationReply, StepReply, table_reply, declaration_reply, step_reply}
 use Rattle.names.specs.declared.Name.{Name}
 use Rattle.names.specs.Numbering.{key}
 use Rattle.names.proofs.NumberedNames.{entry-signal, entry-placed}
 use Rattle.reader.specs.declared.state.State.{State}
-use Rattle.reader.specs.declared.entries.Advanced.{Advanced}
+use Rattle.std.specs.Prelude.{Result, Ok}
 use Rattle.reader.specs.State.{Entry, Sound, Starts, Declares, Steps, InText, Says, Enters}
 use Rattle.reader.proofs.Lines.{part-rest}
+use Rattle.theory.specs.declared.Rule.{Rule}
 
 module _ (m p : List ℕ) (text at : ℕ) (line : List ℕ) (st : State) (fields : Record) (says : Says m p text at line st.place fields) where
   inside : InText m p text at line
   inside = says.inside
 
-  pub enter-table : (c : Spelling) (cells : List ℕ) (s i : ℕ) → fields ≡ Table s i → Sound m p st (length cells) → (r : Advanced) → Starts st s i (length cells) r
+  pub enter-table : (c : Spelling) (cells : List ℕ) (s i : ℕ) → fields ≡ Table s i → Sound m p st (length cells) → (r : Result State Rule) → Starts st s i (length cells) r
       → Enters m p text c at line st cells r cells
   unfolding entered
   enter-table c cells s i f ok r d = record {
     sound = d.sound m p ok;
-    means = d.means m p cells refl ∙ rw (table_reply st.place line s i (sym says.told ∙ ap Fields f)).entry;
+    means = d.means m p cells refl ∙ rw (table_reply st.place line s i (sym says.told ∙ ap Ok f)).entry;
   }
 
   module _ (role : Role) (f : fields ≡ Declaration role) (start : ℕ) (begins : start ≡ length (role_word role) + 1) where
     declared : DeclarationReply st.place line role
-    declared = declaration_reply st.place line role (sym says.told ∙ ap Fields f)
-
-    pub declaration-fits : Fits w64 (at + start)
-    declaration-fits = record { fits = omega (arith, declared.within, inside.within, inside.short) }
+    declared = declaration_reply st.place line role (sym says.told ∙ ap Ok f)
 
     module _ (name : List ℕ) (part : name ≡ drop start line) (n : Name)
         (made : n ≡ record { place = text % 4 + length name % 64 * 4; key = key name; from = (at + start) % 65536 }) where
@@ -64,7 +59,7 @@ module _ (m p : List ℕ) (text at : ℕ) (line : List ℕ) (st : State) (fields
         placed = entry-placed m p text (at + start) name inside.few low short there n made;
       }
 
-      pub enter-declaration : (c : Spelling) (cells : List ℕ) → Sound m p st (length cells) → (r : Advanced) → Declares m p c st role name n r
+      pub enter-declaration : (c : Spelling) (cells : List ℕ) → Sound m p st (length cells) → (r : Result State Rule) → Declares m p c st role name n r
           → Enters m p text c at line st cells r cells
       unfolding entered
       enter-declaration c cells ok r d =
@@ -76,12 +71,9 @@ module _ (m p : List ℕ) (text at : ℕ) (line : List ℕ) (st : State) (fields
 
   module _ (from start stop to : ℕ) (f : fields ≡ Step from start stop to) where
     stepped : StepReply st.place line from start stop to
-    stepped = step_reply st.place line from start stop to (sym says.told ∙ ap Fields f)
+    stepped = step_reply st.place line from start stop to (sym says.told ∙ ap Ok f)
 
-    pub step_ordered : start ≤ stop
-    step_ordered = stepped.in_order
-
-    pub enter_step : (c : Spelling) (u name : List ℕ) → u ≡ drop start line → name ≡ take (stop - start) u → (cells cells' : List ℕ) (r : Advanced)
+    pub enter_step : (c : Spelling) (u name : List ℕ) → u ≡ drop start line → name ≡ take (stop - start) u → (cells cells' : List ℕ) (r : Result State Rule)
         → Steps m p st cells from name to r cells' → Enters m p text c at line st cells r cells'
     unfolding entered
     enter_step c u name e g cells cells' r d = record {

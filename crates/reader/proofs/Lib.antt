@@ -4,7 +4,6 @@ pub mod Entering
 pub mod Whole
 pub mod Joined
 pub mod Meaning
-pub mod Replies
 pub mod Finding
 pub mod Rows
-pub mod NameParts
+pub mod Lookups

@@ -11,6 +11,7 @@ use Rattle.text.specs.Fields.{upto, split}
 use Rattle.text.specs.Lines.{parse}
 use Rattle.text.specs.Reading.{Reading, Outcome, finished, refuse_at, onward, entered, read_lines}
 use Rattle.text.proofs.Split.{part-last, part_cut, part_length, part_end, split-some}
+use Rattle.theory.specs.declared.Rule.TheVariants as rule
 
 -- ---- parts of a part
 
@@ -35,7 +36,7 @@ module _ (c : Spelling) (text k : ℕ) (R : Reading) (bytes : List ℕ) (at : �
   lines-done h = rw (part_end 10 bytes at h)
 
   module _ (e : ℕ) (f : e ≡ upto 10 (drop at bytes)) where
-    pub lines-unended : at < length bytes → length bytes ≤ at + e → rest ≡ refuse_at 14 text k
+    pub lines-unended : at < length bytes → length bytes ≤ at + e → rest ≡ refuse_at rule.LineForm text k
     unfolding read_lines
     lines-unended h g = rw (part-last 10 bytes at e f g, drop-cons bytes at 0 h)
 

@@ -6,60 +6,41 @@ use Prim.Native.Nat.{ℕ, zero, suc, ◌+◌, ◌-◌, ◌<◌, ◌≤◌}
 use native.Mathlib.Numerals.{add-one}
 use native.Mathlib.Omega.{arith}
 use lib.Dec.{eqb, ltb}
-use lib.ListN.{length, take, drop, get_or, set, replicate, length-map, length-append, drop_of_length-le}
-use borrow.Author.Tests.{eq-eqb, ne_eqb, lt-ltb, le-ltb}
+use Rattle.std.specs.Prelude.{count_by, ◌==◌}
+use Rattle.std.proofs.lemmas.List.Sums.{sum_by-cons}
+use lib.ListN.{length, get_or, set, replicate, length-map, length-append}
+use borrow.Author.Tests.{lt-ltb, le-ltb}
 use Rattle.theory.proofs.Filled.{any_default}
 use Rattle.text.specs.declared.Clash.{Clash}
-use Rattle.text.specs.declared.Spelling.TheVariants.{Exact, Folded}
+use Rattle.text.specs.declared.Spelling.TheVariants.{Folded}
 use Rattle.text.specs.Fields.{onto, split}
-use Rattle.text.specs.Reading.{Signal, first_match, read_both}
+use Rattle.text.specs.Reading.{Signal, first_match}
 use Rattle.text.specs.Writing.{those}
 use Rattle.text.specs.Lookup.{nobody}
-use Rattle.text.specs.Clashes.{first_alike, clashing, line_of, declared_at, clash_at, clashes_of}
+use Rattle.text.specs.Clashes.{first_alike, clashing, declared_at, clash_at, clashes_of}
 use Rattle.text.proofs.Ascending.{those-few}
 use Rattle.text.proofs.Split.{split-some}
-use Rattle.lines.proofs.Bytes.{drop-step}
 use Rattle.names.specs.declared.Name.{Name}
 use Rattle.names.specs.NamePlaces.{name_at}
 use Rattle.reader.specs.declared.ClashList.{ClashList}
-use Rattle.reader.specs.declared.Listing.{Listing}
 use Rattle.names.specs.declared.Names.{Names}
-use Rattle.reader.specs.declared.state.TextsRead.{TextsRead}
-use Rattle.names.specs.Numbering.{entries_of, signal_at, signals_of, Fit, position, is_of}
+use Rattle.names.specs.Numbering.{entries_of, signal_at, signals_of, Fit, first_place, is_of}
 use Rattle.names.proofs.NumberedNames.{set-behind, signals-length, signal-at, find-signal}
-use Rattle.reader.specs.State.{ReadsBoth}
-use Rattle.reader.specs.Clashes.{unused, in_rows, listing, ends, with_clash, clashes_below, Visitable}
-use Rattle.reader.proofs.Meaning.{both-ended, both-finished}
+use Rattle.reader.specs.Clashes.{unused, in_rows, with_clash, clashes_below, Visitable}
 
 -- ---- lines
 
-pub ends_so : (x : ℕ) → x ≡ 10 → 1 ≡ ends x
-ends_so x e = rw (eq-eqb x 10 e)
-
-pub ends-not : (x : ℕ) → (x ≡ 10 → ⊥) → 0 ≡ ends x
-ends-not x d = rw (ne_eqb x 10 d)
-
-lines_step : (x : ℕ) (s : List ℕ) → length (split 10 (x ∷ s)) ≡ ends x + length (split 10 s)
+-- A text has a line for each LF, and a last one.
+pub lines-count : (s : List ℕ) → length (split 10 s) ≡ count_by (λ x. x == 10) s + 1
 unfolding split
-lines_step x s = let (f, fs, e) = split-some 10 s in rw e (go (eqb x 10) f fs)
+lines-count [] = refl
+lines-count (x ∷ s) = let (f, fs, e) = split-some 10 s in
+    rw (e, sum_by-cons (λ y. cond (y == 10) 1 0) x s) (go (eqb x 10) f fs (ap length (sym e) ∙ lines-count s))
   where
-    go : (b : Bool) (f : List ℕ) (fs : List (List ℕ)) → length (cond b ([] ∷ f ∷ fs) (onto x (f ∷ fs))) ≡ cond b 1 0 + length (f ∷ fs)
-    go true f fs = omega arith
-    go false f fs = omega arith
-
--- At the byte i of s, where the line is counted up to it.
-module _ (s : List ℕ) (i line : ℕ) (inv : line + length (split 10 (drop i s)) ≡ length (split 10 s) + 1) where
-  pub line-next : i < length s → (r : ℕ) → r ≡ ends (get_or s i 0) → line + r + length (split 10 (drop (i + 1) s)) ≡ length (split 10 s) + 1
-  line-next h r e =
-      let step : length (split 10 (drop i s)) ≡ ends (get_or s i 0) + length (split 10 (drop (i + 1) s)) =
-      ap (λ l. length (split 10 l)) (drop-step s i h) ∙ lines_step (get_or s i 0) (drop (i + 1) s) in
-      omega arith
-
-  pub line-done : length s ≤ i → (text : List ℕ) (from : ℕ) → s ≡ take from text → line ≡ line_of text from
-  unfolding split line_of
-  line-done h text from e =
-      let last : length (split 10 (drop i s)) ≡ 1 = ap (λ l. length (split 10 l)) (drop_of_length-le s {i = i} h) in
-      rw (← e) (omega arith)
+    go : (b : Bool) (f : List ℕ) (fs : List (List ℕ)) → length (f ∷ fs) ≡ count_by (λ x. x == 10) s + 1
+        → length (cond b ([] ∷ f ∷ fs) (onto x (f ∷ fs))) ≡ cond b 1 0 + count_by (λ x. x == 10) s + 1
+    go true f fs h = omega arith
+    go false f fs h = omega arith
 
 -- ---- clashes
 
@@ -120,7 +101,7 @@ module _ (m p : List ℕ) (s : Names) (i : ℕ) (c : ClashList) (v : Visitable m
       sym (next-found ∙ ap (λ l. found ++ l) e)
 
   module _ (d name : Name) (there : name ≡ get_or s.entries i d) (wanted : List ℕ) (bytes : wanted ≡ name_at m p name)
-      (alike : ℕ) (searched : alike ≡ position (is_of m p Folded wanted) (entries_of s)) where
+      (alike : ℕ) (searched : alike ≡ first_place (is_of m p Folded wanted) (entries_of s)) where
     here : get_or signals i nobody ≡ signal_at m p name
     here = signal_of_lem d i v.below ∙ ap (signal_at m p) (sym there)
 
@@ -154,13 +135,3 @@ module _ (m p : List ℕ) (s : Names) (fit : Fit m p s) where
   visit_done i h k c e =
       let n : i ≡ length (signals_of m p s) = omega (arith, signals-length m p s fit) in
       rw n at e
-
--- ---- by what was read
-
-module _ (m p : List ℕ) (room room' : ℕ) (t : TextsRead) (cells cells' : List ℕ) (read : ReadsBoth m p Exact room room' t cells cells') (r : Listing) where
-  pub list_refused : t.refused ≡ true → r ≡ record { refused = true; refusal = t.refusal; clashes = in_rows [] } → r ≡ listing m p (read_both Exact room m room' p)
-  list_refused e f = f ∙ ap (listing m p) (both-ended m p Exact room room' t cells cells' read e)
-
-  pub list_read : t.refused ≡ false → (c : ClashList) → c ≡ in_rows (clashes_of m p (signals_of m p t.second.signals))
-      → ◌≡◌ {A = Listing} (record { refused = false; refusal = record { number = 0; text = 0; line = 0 }; clashes = c }) (listing m p (read_both Exact room m room' p))
-  list_read e c f = rw f (ap (listing m p) (both-finished m p Exact room room' t cells cells' read e))

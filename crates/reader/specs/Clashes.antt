@@ -1,12 +1,12 @@
 -- The clashes of two texts as the code holds them: in an array of 32.
-use Rattle.std.specs.Prelude.{◌≡◌, true, false, cond, List, [], ◌++◌, map, ℕ, ◌+◌, ◌-◌, ◌<◌, eqb, ltb, length, set, replicate}
+use Rattle.std.specs.Prelude.{◌≡◌, List, ◌++◌, map, ℕ, ◌+◌, ◌-◌, ◌<◌, ltb, length, set, replicate, Result, Ok, Err}
 use Rattle.text.specs.declared.Clash.{Clash}
 use Rattle.text.specs.declared.Declaration.{Declaration}
+use Rattle.text.specs.declared.TextRefusal.{TextRefusal}
 use Rattle.text.specs.Reading.{Signal, Joint, both, neither}
 use Rattle.text.specs.Writing.{those}
 use Rattle.text.specs.Clashes.{first_alike, clash_at, clashes_of}
 use Rattle.reader.specs.declared.ClashList.{ClashList}
-use Rattle.reader.specs.declared.Listing.{Listing}
 use Rattle.names.specs.declared.Names.{Names}
 use Rattle.names.specs.Numbering.{signals_of, Fit}
 
@@ -18,15 +18,11 @@ abbrev pub in_rows : List Clash → ClashList
 in_rows l = record { rows = l ++ replicate (32 - length l) unused; count = length l }
 
 -- By what was read: the clashes among all signals, or the refusal.
-abbrev pub listing : List ℕ → List ℕ → Joint → Listing
-listing m p (both x y) = record { refused = false; refusal = record { number = 0; text = 0; line = 0 }; clashes = in_rows (clashes_of m p y.signals) }
-listing m p (neither r) = record { refused = true; refusal = r; clashes = in_rows [] }
+abbrev pub listing : List ℕ → List ℕ → Joint → Result ClashList TextRefusal
+listing m p (both x y) = Ok (in_rows (clashes_of m p y.signals))
+listing m p (neither r) = Err r
 
 -- ---- while they are found
-
--- 1 for an LF, which ends a line; 0 for any other byte.
-abbrev pub ends : ℕ → ℕ
-ends byte = cond (eqb byte 10) 1 0
 
 -- The clashes with one more.
 abbrev pub with_clash : ClashList → (later first : Declaration) → ClashList

@@ -1,35 +1,28 @@
 // Lists the clashes among the names of two stored texts (document 02, S-9).
-ghost use Rattle.std.specs.Prelude.{◌≡◌, true, [], ◌+◌, ◌<◌, ◌≤◌, length};
+ghost use Rattle.std.specs.Prelude.{◌≡◌, ◌==◌, [], ◌+◌, ◌<◌, length, count_by};
 ghost use Rattle.text.specs.declared.Spelling.TheVariants.{Exact};
 ghost use Rattle.text.specs.Reading.{read_both, cells_first, cells_second};
 ghost use Rattle.text.specs.Clashes.{line_of, declared_at, clashes_of};
 ghost use Rattle.names.specs.Numbering.{signal_at, signals_of, Fit};
-ghost use Rattle.reader.specs.Clashes.{in_rows, listing, ends, with_clash, clashes_below, Visitable};
+ghost use Rattle.reader.specs.Clashes.{in_rows, listing, with_clash, clashes_below, Visitable};
 
-use crate::{ClashList, Listing, texts};
+use crate::state::States;
+use crate::{ClashList, texts};
 use names::{Name, Names};
 use text::{Clash, Declaration, Spelling, TextRefusal};
+
+// Counts the LFs in a part of a text; each ends a line.
+fn ends(part: &[u8]) -> usize
+    ensures { result ≡ count_by (λ x. x == 10) part.now }
+{
+    part.iter().filter(|byte| **byte == b'\n').count()
+}
 
 // Counts the lines of a text up to the one that its byte `from` stands in.
 fn line_of(text: &[u8], from: usize) -> usize
     ensures { result ≡ line_of text.now from }
 {
-    let before = lines::before(text, from);
-    let mut line: usize = 1;
-    let mut i: usize = 0;
-    while i < before.len() {
-        line += breaks(before[i]);
-        i += 1;
-    }
-    line
-}
-
-// Gives 1 for an LF, which ends a line, and 0 for any other byte.
-fn breaks(byte: u8) -> usize
-    ensures value { result ≡ ends byte }
-    ensures upper_bound { result ≤ 1 }
-{
-    if byte == 10 { 1 } else { 0 }
+    ends(lines::before(text, from)) + 1
 }
 
 // Finds where a name is declared.
@@ -37,7 +30,7 @@ fn declared_at<'a>(m: &'a [u8], p: &'a [u8], name: Name) -> Declaration
     ensures { result ≡ declared_at m.now p.now (signal_at m.now p.now name) }
 {
     let text = names::text_in(name);
-    let line = line_of(names::text_of(m, p, text), name.from as usize);
+    let line = line_of(names::text_of(m, p, text), usize::from(name.from));
     Declaration { text, line }
 }
 
@@ -77,11 +70,10 @@ fn visit<'a>(m: &'a [u8], p: &'a [u8], signals: Names, i: usize, clashes: ClashL
     requires { Visitable m.now p.now signals i clashes }
     ensures { result ≡ in_rows (clashes_below m.now p.now (signals_of m.now p.now signals) (i + 1)) }
 {
-    let entries = signals.entries;
-    let name = entries[i];
+    let name = signals.entries[i];
     let j = names::find(m, p, Spelling::Folded, signals, names::bytes_of(m, p, name));
     if j < i {
-        return add(m, p, clashes, name, entries[j]);
+        return add(m, p, clashes, name, signals.entries[j]);
     }
     clashes
 }
@@ -92,47 +84,24 @@ fn list<'a>(m: &'a [u8], p: &'a [u8], signals: Names) -> ClashList
     ensures { result ≡ in_rows (clashes_of m.now p.now (signals_of m.now p.now signals)) }
 {
     let mut clashes = none();
-    let mut i: usize = 0;
-    while i < signals.count {
-        let more = visit(m, p, signals, i, clashes);
-        clashes = more;
-        i += 1;
+    for i in 0..signals.count {
+        clashes = visit(m, p, signals, i, clashes);
     }
     clashes
 }
 
-// Makes the listing of texts that are refused.
-fn refuse(refusal: TextRefusal) -> Listing
-    ensures { result ≡ record { refused = true; refusal = refusal; clashes = in_rows [] } }
-{
-    Listing {
-        refused: true,
-        refusal,
-        clashes: none(),
-    }
-}
-
 // Lists the clashes in the stored texts of a component and a specification (document 01: module, plan). Reads them into the lent cells as
-// `read_archive_together` does.
-pub fn list_clashes<'a>(m: &'a [u8], p: &'a [u8], cm: &mut [u16], cp: &mut [u16]) -> Listing
+// `read_together` does with `Spelling::Exact`.
+pub fn list_clashes<'a>(
+    m: &'a [u8],
+    p: &'a [u8],
+    cm: &mut [u16],
+    cp: &mut [u16],
+) -> Result<ClashList, TextRefusal>
     ensures value { result ≡ listing m.now p.now (read_both Exact (length cm.old) m.now (length cp.old) p.now) }
     ensures cm_after { cm.new ≡ cells_first (length cm.old) (read_both Exact (length cm.old) m.now (length cp.old) p.now) }
     ensures cp_after { cp.new ≡ cells_second (length cp.old) (read_both Exact (length cm.old) m.now (length cp.old) p.now) }
 {
-    let reading = texts::read_both(m, p, Spelling::Exact, cm, cp);
-    if reading.refused {
-        let refusal = reading.refusal;
-        return refuse(refusal);
-    }
-    let second = reading.second;
-    let clashes = list(m, p, second.signals);
-    Listing {
-        refused: false,
-        refusal: TextRefusal {
-            number: 0,
-            text: 0,
-            line: 0,
-        },
-        clashes,
-    }
+    let States { second, .. } = texts::read_both(m, p, Spelling::Exact, cm, cp)?;
+    Ok(list(m, p, second.signals))
 }

@@ -2,66 +2,33 @@
 ghost use Rattle.std.specs.Prelude.{◌≡◌, cond, ◌<◌, eqb, length, get_or, set};
 ghost use Rattle.text.specs.Reading.{with_role};
 ghost use Rattle.text.specs.declared.Spelling.TheVariants.{Exact};
-ghost use Rattle.names.specs.Numbering.{entries_of, Fit, position, is_of};
-ghost use Rattle.reader.specs.State.{is_declared, gone, halted, lacking, Putable, Entry, Sound, Starts, Declares, Steps, Enters, Says};
+ghost use Rattle.names.specs.Numbering.{entries_of, Fit, first_place, is_of};
+ghost use Rattle.reader.specs.State.{is_declared, lacking, Putable, Entry, Sound, Starts, Declares, Steps, Enters, Says};
 
 use crate::state::State;
 use lines::Record;
 use names::{Name, Names};
 use text::{Place, Role, Spelling};
-use theory::Automaton;
-
-// Result of a line: the state after it; or, if `refused`, the number of the refusal that ends the reading.
-#[derive(Clone, Copy)]
-pub struct Advanced {
-    pub refused: bool,
-    pub number: u32,
-    pub state: State,
-}
-
-// Goes on with the reading.
-fn go(state: State) -> Advanced
-    ensures { result ≡ gone state }
-{
-    Advanced {
-        refused: false,
-        number: 0,
-        state,
-    }
-}
-
-// Ends the reading.
-fn stop(number: u32, state: State) -> Advanced
-    ensures { result ≡ halted number state }
-{
-    Advanced {
-        refused: true,
-        number,
-        state,
-    }
-}
+use theory::{Automaton, Rule};
 
 // Starts the automaton that the `table` line says: 1, 2, 10; room is the number of lent cells.
-fn start(st: State, states: usize, initial: usize, room: usize) -> Advanced
+#[tactic(auto, unfolding(text::specs::Reading::started))]
+fn start(st: State, states: usize, initial: usize, room: usize) -> Result<State, Rule>
     ensures { Starts st states initial room result }
 {
-    if states == 0 {
-        return stop(1, st);
-    }
-    if 4096 < states {
-        return stop(1, st);
+    if states == 0 || 4096 < states {
+        return Err(Rule::StateCount);
     }
     if states <= initial {
-        return stop(2, st);
+        return Err(Rule::InitialState);
     }
     if room < states * 32 {
-        return stop(10, st);
+        return Err(Rule::RoomLength);
     }
-    let signals = st.signals;
-    go(State {
+    Ok(State {
         place: Place::Declarations,
         header: table::header(states, initial, 0, 0),
-        signals,
+        signals: st.signals,
     })
 }
 
@@ -71,18 +38,14 @@ fn with_role(header: Automaton, role: Role, signal: usize) -> Automaton
     ensures { result ≡ with_role role signal header }
 {
     match role {
-        Role::Input => table::header(
-            header.states,
-            header.initial,
-            sets::insert(header.inputs, signal),
-            header.outputs,
-        ),
-        Role::Output => table::header(
-            header.states,
-            header.initial,
-            header.inputs,
-            sets::insert(header.outputs, signal),
-        ),
+        Role::Input => Automaton {
+            inputs: sets::insert(header.inputs, signal),
+            ..header
+        },
+        Role::Output => Automaton {
+            outputs: sets::insert(header.outputs, signal),
+            ..header
+        },
     }
 }
 
@@ -102,8 +65,8 @@ fn number_of<'a>(
     name: &[u8],
     alike: usize,
 ) -> usize
-    requires { alike ≡ position (is_of m.now p.now spelling name.now) (entries_of signals) }
-    ensures { result ≡ position (is_of m.now p.now Exact name.now) (entries_of signals) }
+    requires { alike ≡ first_place (is_of m.now p.now spelling name.now) (entries_of signals) }
+    ensures { result ≡ first_place (is_of m.now p.now Exact name.now) (entries_of signals) }
 {
     match spelling {
         Spelling::Exact => alike,
@@ -120,7 +83,7 @@ fn declare<'a>(
     role: Role,
     name: &[u8],
     entry: Name,
-) -> Advanced
+) -> Result<State, Rule>
     requires fit { Fit m.now p.now st.signals }
     requires entry { Entry m.now p.now name.now entry }
     ensures { Declares m.now p.now spelling st role name.now entry result }
@@ -130,15 +93,15 @@ fn declare<'a>(
     let alike = names::find(m, p, spelling, signals, name);
     let number = number_of(m, p, spelling, signals, name, alike);
     if is_declared(header, number) {
-        return stop(18, st);
+        return Err(Rule::DeclaredTwice);
     }
     if alike < number {
-        return stop(28, st);
+        return Err(Rule::NameClash);
     }
     if 32 <= number {
-        return stop(21, st);
+        return Err(Rule::NameCount);
     }
-    go(State {
+    Ok(State {
         place: Place::Declarations,
         header: with_role(header, role, number),
         signals: names::add(signals, entry, number),
@@ -162,13 +125,7 @@ fn put(cells: &mut [u16], at: usize, to: usize) -> bool
 fn lacks(header: Automaton, from: usize, signal: usize, to: usize) -> bool
     ensures { result ≡ lacking header from signal to }
 {
-    if !is_declared(header, signal) {
-        return true;
-    }
-    if header.states <= from {
-        return true;
-    }
-    header.states <= to
+    !is_declared(header, signal) || header.states <= from || header.states <= to
 }
 
 // Takes a step by the signal with this name: 19, 20. The lent cells, blank at first, tell a step that was given before.
@@ -180,7 +137,7 @@ fn step<'a>(
     from: usize,
     name: &[u8],
     to: usize,
-) -> Advanced
+) -> Result<State, Rule>
     requires { Sound m.now p.now st (length cells.old) }
     ensures { Steps m.now p.now st cells.old from name.now to result cells.new }
 {
@@ -188,20 +145,20 @@ fn step<'a>(
     let header = st.header;
     let number = names::find(m, p, Spelling::Exact, signals, name);
     if lacks(header, from, number, to) {
-        return stop(19, st);
+        return Err(Rule::UnknownInStep);
     }
     if !put(cells, from * 32 + number, to) {
-        return stop(20, st);
+        return Err(Rule::StepTwice);
     }
-    go(State {
+    Ok(State {
         place: Place::Steps,
         header,
         signals,
     })
 }
 
-// Enters the record of a line, which begins at the byte `at` of the text with number `text`: returns the state after it, and writes the cell of a
-// step.
+// Enters the record of a line, which begins at the byte `at` of the text with number `text`: returns the state after it, or the rule that it
+// breaks, which ends the reading, and writes the cell of a step.
 pub fn enter<'a>(
     m: &'a [u8],
     p: &'a [u8],
@@ -212,7 +169,7 @@ pub fn enter<'a>(
     at: usize,
     line: &[u8],
     fields: Record,
-) -> Advanced
+) -> Result<State, Rule>
     requires sound { Sound m.now p.now st (length cells.old) }
     requires says { Says m.now p.now text at line.now st.place fields }
     ensures { Enters m.now p.now text spelling at line.now st cells.old result cells.new }

@@ -1,6 +1,6 @@
-// State of a reading between two lines, but for the lent cells; and the results of reading one text and two.
+// State of a reading between two lines, but for the lent cells; and the states in which the readings of two texts end.
 use names::Names;
-use text::{Place, TextRefusal};
+use text::Place;
 use theory::Automaton;
 
 // What has been read, but for the lent cells: the place of the next line, the header of the automaton, and the signals so far.
@@ -11,19 +11,9 @@ pub struct State {
     pub signals: Names,
 }
 
-// Result of reading a text: the state at its end; or, if `refused`, why it is refused.
+// The states at the ends of two texts.
 #[derive(Clone, Copy)]
-pub struct TextRead {
-    pub refused: bool,
-    pub refusal: TextRefusal,
-    pub state: State,
-}
-
-// Result of reading two texts: the state at the end of each; or, if `refused`, why they are refused.
-#[derive(Clone, Copy)]
-pub struct TextsRead {
-    pub refused: bool,
-    pub refusal: TextRefusal,
+pub struct States {
     pub first: State,
     pub second: State,
 }

@@ -1,15 +1,13 @@
 -- A program by what came of its two files.
-use mathlib.Core.Path.{◌≡◌, sym, ap, ◌∙◌}
+use mathlib.Core.Path.{◌≡◌, ap, ◌∙◌}
 use mathlib.Core.List.{List}
 use Prim.Native.Nat.{ℕ, ◌≤◌}
 use native.Mathlib.Omega.{arith}
 use lib.ListN.{length, take}
+use Rattle.std.specs.Prelude.{Option, Some, None, Ok, Err}
 use Rattle.text.specs.declared.Spelling.TheVariants.{Exact}
 use Rattle.text.specs.Reading.{read_both, cells_first, cells_second}
 use Rattle.emit.specs.Buffer.{stored, after}
-use Rattle.files.specs.declared.File.{File}
-use Rattle.files.specs.declared.File.TheVariants.{Bytes, Unreadable}
-use Rattle.report.specs.declared.programs.FilesRead.{FilesRead}
 use Rattle.report.specs.Lines.{refusal_text}
 use Rattle.report.specs.Report.{Buffers, report_text, report_buffers}
 use Rattle.report.specs.Listing.{listing_text}
@@ -30,37 +28,35 @@ Line file out e out' = record {
 
 -- ---- the results of reading two files, put together
 
-module _ (first second : File) where
-  pub first_unreadable : first ≡ Unreadable → ◌≡◌ {A = FilesRead} (record { unreadable = 1; first = 0; second = 0 }) (files_read first second)
+module _ (first second : Option ℕ) where
+  pub first_unreadable : first ≡ None → Err 1 ≡ files_read first second
   first_unreadable a = rw a
 
-  pub second_unreadable : (i : ℕ) → first ≡ Bytes i → second ≡ Unreadable
-      → ◌≡◌ {A = FilesRead} (record { unreadable = 2; first = 0; second = 0 }) (files_read first second)
+  pub second_unreadable : (i : ℕ) → first ≡ Some i → second ≡ None → Err 2 ≡ files_read first second
   second_unreadable i a b = rw (a, b)
 
-  pub none_unreadable : (i j : ℕ) → first ≡ Bytes i → second ≡ Bytes j
-      → ◌≡◌ {A = FilesRead} (record { unreadable = 0; first = i; second = j }) (files_read first second)
+  pub none_unreadable : (i j : ℕ) → first ≡ Some i → second ≡ Some j → Ok (i, j) ≡ files_read first second
   none_unreadable i j a b = rw (a, b)
 
 -- What is told of a file that cannot be read is told of the one that the reading names.
-of_unreadable : {A : Type 0} (first second : File) (told : ℕ → A) (whole : ℕ → ℕ → A) (r : FilesRead) → r ≡ files_read first second
-    → (r.unreadable ≡ 0 → ⊥) → told r.unreadable ≡ by_files first second told whole
-of_unreadable Unreadable Unreadable told whole r e n = rw e
-of_unreadable Unreadable (Bytes j) told whole r e n = rw e
-of_unreadable (Bytes i) Unreadable told whole r e n = rw e
-of_unreadable (Bytes i) (Bytes j) told whole r e n = absurd (n (ap (λ (x : FilesRead). x.unreadable) e))
+of_unreadable : {A : Type 0} (first second : Option ℕ) (told : ℕ → A) (whole : ℕ → ℕ → A) (file : ℕ) → Err file ≡ files_read first second
+    → told file ≡ by_files first second told whole
+of_unreadable None second told whole file e = let z : file ≡ 1 = cc in ap told z
+of_unreadable (Some i) None told whole file e = let z : file ≡ 2 = cc in ap told z
+of_unreadable (Some i) (Some j) told whole file e = absurd (cc)
 
 -- If the reading names none, both files were read, as many bytes of each as it says.
-of_both : {A : Type 0} (first second : File) (told : ℕ → A) (whole : ℕ → ℕ → A) (r : FilesRead) → r ≡ files_read first second
-    → r.unreadable ≡ 0 → whole r.first r.second ≡ by_files first second told whole
-of_both Unreadable Unreadable told whole r e z = absurd (let o = sym (ap (λ (x : FilesRead). x.unreadable) e) ∙ z in omega arith)
-of_both Unreadable (Bytes j) told whole r e z = absurd (let o = sym (ap (λ (x : FilesRead). x.unreadable) e) ∙ z in omega arith)
-of_both (Bytes i) Unreadable told whole r e z = absurd (let o = sym (ap (λ (x : FilesRead). x.unreadable) e) ∙ z in omega arith)
-of_both (Bytes i) (Bytes j) told whole r e z = rw e
+of_both : {A : Type 0} (first second : Option ℕ) (told : ℕ → A) (whole : ℕ → ℕ → A) (i j : ℕ) → Ok (i, j) ≡ files_read first second
+    → whole i j ≡ by_files first second told whole
+of_both None second told whole i j e = absurd (cc)
+of_both (Some k) None told whole i j e = absurd (cc)
+of_both (Some k) (Some l) told whole i j e =
+    let z : ◌≡◌ {A = ℕ × ℕ} (i, j) (k, l) = cc in
+    ap (λ (x : ℕ × ℕ). whole x.0 x.1) z
 
 -- Of any program: what it prints of two texts, m and p from the start of their buffers on, and what it leaves in its other buffers, which were `kept`.
-module _ {A : Type 0} (bound : ℕ) (long : 26 ≤ bound) (first second : File) (m p : List ℕ) (text : List ℕ → List ℕ → List ℕ) (left : List ℕ → List ℕ → A) (kept : A)
-    (out : List ℕ) (e : ℕ) (out' : List ℕ) (r : FilesRead) (joined : r ≡ files_read first second) where
+module _ {A : Type 0} (bound : ℕ) (long : 26 ≤ bound) (first second : Option ℕ) (m p : List ℕ) (text : List ℕ → List ℕ → List ℕ) (left : List ℕ → List ℕ → A) (kept : A)
+    (out : List ℕ) (e : ℕ) (out' : List ℕ) where
   abbrev refused : ℕ → List ℕ
   refused file = refusal_text file 24 0
 
@@ -76,21 +72,21 @@ module _ {A : Type 0} (bound : ℕ) (long : 26 ≤ bound) (first second : File) 
   abbrev Runs : A → Type 0
   Runs now = Leaves bound out e out' (by_files first second refused texts) now (by_files first second untouched results)
 
-  refuses : (r.unreadable ≡ 0 → ⊥) → Line r.unreadable out e out' → Runs kept
-  refuses n p =
-      let line = of_unreadable first second refused texts r joined n in
+  refuses : (file : ℕ) → Err file ≡ files_read first second → Line file out e out' → Runs kept
+  refuses file f p =
+      let line = of_unreadable first second refused texts file f in
       record {
         value = p.value ∙ ap (after (length out) 0) line;
         out_after = p.out_after ∙ ap (stored out 0) line;
-        buffers_after = of_unreadable first second untouched results r joined n;
+        buffers_after = of_unreadable first second untouched results file f;
         upper_bound = omega (arith, p.upper_bound);
       }
 
-  runs : r.unreadable ≡ 0 → (m' p' : List ℕ) → m' ≡ take r.first m → p' ≡ take r.second p → (now : A)
+  runs : (i j : ℕ) → Ok (i, j) ≡ files_read first second → (m' p' : List ℕ) → m' ≡ take i m → p' ≡ take j p → (now : A)
       → Leaves bound out e out' (text m' p') now (left m' p') → Runs now
-  runs z m' p' em ep now q =
-      let printed : text m' p' ≡ by_files first second refused texts = rw (em, ep) (of_both first second refused texts r joined z) in
-      let result : left m' p' ≡ by_files first second untouched results = rw (em, ep) (of_both first second untouched results r joined z) in
+  runs i j f m' p' em ep now q =
+      let printed : text m' p' ≡ by_files first second refused texts = rw (em, ep) (of_both first second refused texts i j f) in
+      let result : left m' p' ≡ by_files first second untouched results = rw (em, ep) (of_both first second untouched results i j f) in
       record {
         value = q.value ∙ ap (after (length out) 0) printed;
         out_after = q.out_after ∙ ap (stored out 0) printed;
@@ -99,7 +95,7 @@ module _ {A : Type 0} (bound : ℕ) (long : 26 ≤ bound) (first second : File) 
       }
 
 -- The program `sequencer`.
-module _ (first second : File) (m p cm cp cells flags out : List ℕ) (e : ℕ) (out' : List ℕ) (r : FilesRead) (joined : r ≡ files_read first second) where
+module _ (first second : Option ℕ) (m p cm cp cells flags out : List ℕ) (e : ℕ) (out' : List ℕ) where
   abbrev report_of : List ℕ → List ℕ → List ℕ
   report_of m p = report_text m p (length cm) (length cp) (length cells) (length flags)
 
@@ -110,17 +106,17 @@ module _ (first second : File) (m p cm cp cells flags out : List ℕ) (e : ℕ) 
   Reports left =
       Leaves 65608 out e out' (program_text first second m p (length cm) (length cp) (length cells) (length flags)) left (program_buffers first second m p cm cp cells flags)
 
-  pub unread : (r.unreadable ≡ 0 → ⊥) → Line r.unreadable out e out' → Reports (cm, cp, cells, flags)
+  pub unread : (file : ℕ) → Err file ≡ files_read first second → Line file out e out' → Reports (cm, cp, cells, flags)
   unfolding program_text program_buffers
-  unread = refuses 65608 (omega arith) first second m p report_of buffers _ out e out' r joined
+  unread = refuses 65608 (omega arith) first second m p report_of buffers _ out e out'
 
-  pub both_read : r.unreadable ≡ 0 → (m' p' : List ℕ) → m' ≡ take r.first m → p' ≡ take r.second p → (left : Buffers)
+  pub both_read : (i j : ℕ) → Ok (i, j) ≡ files_read first second → (m' p' : List ℕ) → m' ≡ take i m → p' ≡ take j p → (left : Buffers)
       → Leaves 65608 out e out' (report_of m' p') left (buffers m' p') → Reports left
   unfolding program_text program_buffers
-  both_read = runs 65608 (omega arith) first second m p report_of buffers (cm, cp, cells, flags) out e out' r joined
+  both_read = runs 65608 (omega arith) first second m p report_of buffers (cm, cp, cells, flags) out e out'
 
 -- The lister of clashes.
-module _ (first second : File) (m p cm cp out : List ℕ) (e : ℕ) (out' : List ℕ) (r : FilesRead) (joined : r ≡ files_read first second) where
+module _ (first second : Option ℕ) (m p cm cp out : List ℕ) (e : ℕ) (out' : List ℕ) where
   abbrev listing_of : List ℕ → List ℕ → List ℕ
   listing_of m p = listing_text m p (length cm) (length cp)
 
@@ -130,11 +126,11 @@ module _ (first second : File) (m p cm cp out : List ℕ) (e : ℕ) (out' : List
   abbrev Lists : List ℕ × List ℕ → Type 0
   Lists left = Leaves 768 out e out' (clashes_text first second m p (length cm) (length cp)) left (clashes_cells first second m p cm cp)
 
-  pub list_unread : (r.unreadable ≡ 0 → ⊥) → Line r.unreadable out e out' → Lists (cm, cp)
+  pub list_unread : (file : ℕ) → Err file ≡ files_read first second → Line file out e out' → Lists (cm, cp)
   unfolding clashes_text clashes_cells
-  list_unread = refuses 768 (omega arith) first second m p listing_of cells_read _ out e out' r joined
+  list_unread = refuses 768 (omega arith) first second m p listing_of cells_read _ out e out'
 
-  pub list_both_read : r.unreadable ≡ 0 → (m' p' : List ℕ) → m' ≡ take r.first m → p' ≡ take r.second p → (x y : List ℕ)
+  pub list_both_read : (i j : ℕ) → Ok (i, j) ≡ files_read first second → (m' p' : List ℕ) → m' ≡ take i m → p' ≡ take j p → (x y : List ℕ)
       → record {
         value : e ≡ after (length out) 0 (listing_of m' p');
         out_after : out' ≡ stored out 0 (listing_of m' p');
@@ -143,6 +139,6 @@ module _ (first second : File) (m p cm cp out : List ℕ) (e : ℕ) (out' : List
         upper_bound : e ≤ 768;
       } → Lists (x, y)
   unfolding clashes_text clashes_cells
-  list_both_read z m' p' em ep x y q =
-      runs 768 (omega arith) first second m p listing_of cells_read (cm, cp) out e out' r joined z m' p' em ep (x, y)
+  list_both_read i j f m' p' em ep x y q =
+      runs 768 (omega arith) first second m p listing_of cells_read (cm, cp) out e out' i j f m' p' em ep (x, y)
       (record { value = q.value; out_after = q.out_after; buffers_after = rw (q.cm_after, q.cp_after); upper_bound = q.upper_bound })

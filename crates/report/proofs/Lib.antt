@@ -1,4 +1,5 @@
 pub mod SignalNames
+pub mod Parts
 pub mod NoClash
 pub mod Lines
 pub mod LineLengths

@@ -75,9 +75,10 @@ module _ (d : List ℕ) (at r : ℕ) (b : List ℕ) where
   ends : (s : List ℕ) (k : ℕ) → length s ≤ k → Puts d at s r b → Ended s k
   ends s k h p = record { value = p.value; out_after = p.d_after; upper_bound = omega (arith, p.value, within (length d) at s) }
 
-  pub refusal-ends : (file number line : ℕ) → Puts d at (refusal_text file number line) r b
-      → Ended (refusal_text file number line) 26
-  refusal-ends file number line = ends (refusal_text file number line) 26 (refusal-short file number line)
-
   pub clash-ends : (c : Clash) → Puts d at (clash_text c) r b → Ended (clash_text c) 24
   clash-ends c = ends (clash_text c) 24 (clash-short c)
+
+-- The line of a refusal is put at the front of the buffer.
+pub refusal-ends : (d : List ℕ) (r : ℕ) (b : List ℕ) (file number line : ℕ) → Puts d 0 (refusal_text file number line) r b
+    → record { value : r ≡ after (length d) 0 (refusal_text file number line); out_after : b ≡ stored d 0 (refusal_text file number line); upper_bound : r ≤ 26 }
+refusal-ends d r b file number line p = ends d 0 r b (refusal_text file number line) 26 (refusal-short file number line) p

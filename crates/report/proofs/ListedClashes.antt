@@ -1,6 +1,5 @@
 -- The lines of clashes, one after the other; and what is listed, by what was read.
 use mathlib.Core.Path.{◌≡◌, refl, ap}
-use mathlib.Core.Bool.{true, false}
 use mathlib.Core.List.{List, [], ◌∷◌, ◌++◌, map, map-append}
 use Prim.Native.Nat.{ℕ, ◌+◌, ◌-◌, ◌≤◌, ◌<◌}
 use native.Mathlib.Numerals.{add-one}
@@ -8,7 +7,9 @@ use native.Mathlib.Omega.{arith}
 use lib.Dec.{ltb}
 use lib.ListN.{length, take, get_or, replicate, length-map, length-append, length-replicate}
 use lib.Seq.{take-suc, take-append_seam}
+use Rattle.std.specs.Prelude.{Ok, Err}
 use Rattle.text.specs.declared.Clash.{Clash}
+use Rattle.text.specs.declared.TextRefusal.{TextRefusal}
 use Rattle.text.specs.declared.Spelling.TheVariants.{Exact}
 use Rattle.text.specs.Reading.{Reading, Joint, both, neither, read_both}
 use Rattle.text.specs.Writing.{printed, those}
@@ -19,9 +20,10 @@ use Rattle.text.proofs.Written.{printed-append}
 use Rattle.emit.specs.Buffer.{after, stored}
 use Rattle.emit.proofs.Buffer.{Puts, puts_none, puts_then}
 use Rattle.report.specs.Lines.{refusal_text, clash_row, clash_text}
-use Rattle.reader.specs.declared.Listing.{Listing}
-use Rattle.reader.specs.Clashes.{unused, listing}
+use Rattle.reader.specs.declared.ClashList.{ClashList}
+use Rattle.reader.specs.Clashes.{unused, in_rows, listing}
 use Rattle.report.specs.Listing.{clash_lines, listed, listing_text, lines_of, Listed}
+use Rattle.theory.specs.Rules.{rule_number}
 
 -- ---- lines
 
@@ -37,10 +39,6 @@ lines_next rows i h d at b p x e f r b' q =
     rw (add-one i, take-suc rows i e h, ← f, map-append clash_row (take i rows) (x ∷ [])) (printed-append (map clash_row (take i rows)) (clash_row x ∷ [])) in
     rw more (puts_then d 0 _ _ at r b b' p q)
 
-pub lines-done : (rows : List Clash) (i count : ℕ) → i ≤ count → count ≤ i → (d : List ℕ) (at : ℕ) (b : List ℕ) → Puts d 0 (clash_lines (take i rows)) at b
-    → Puts d 0 (lines_of (record { rows = rows; count = count })) at b
-lines-done rows i count h k d at b p = let e : i ≡ count = omega arith in rw e at p
-
 -- ---- what is listed, by the reply of the reader
 
 clashes-few : (m p : List ℕ) (cm cp : ℕ) (x y : Reading) → read_both Exact cm m cp p ≡ both x y → length (clashes_of m p y.signals) ≤ 32
@@ -54,35 +52,33 @@ clashes-few m p cm cp x y e =
       (accepted-both Exact cm m cp p x y e).second.few_signals,
     )
 
-module _ (m p : List ℕ) (cm cp : ℕ) (r : Listing) (replied : r ≡ listing m p (read_both Exact cm m cp p)) where
-  pub refusal-listed : r.refused ≡ true → refusal_text r.refusal.text r.refusal.number r.refusal.line ≡ listing_text m p cm cp
+module _ (m p : List ℕ) (cm cp : ℕ) where
+  pub refusal-listed : (r : TextRefusal) → Err r ≡ listing m p (read_both Exact cm m cp p) → refusal_text r.text (rule_number r.rule) r.line ≡ listing_text m p cm cp
   unfolding listing_text
-  refusal-listed = go (read_both Exact cm m cp p) replied
+  refusal-listed r = go (read_both Exact cm m cp p)
     where
-      go : (j : Joint) → r ≡ listing m p j → r.refused ≡ true → refusal_text r.refusal.text r.refusal.number r.refusal.line ≡ listed m p j
-      go (both x y) e h = absurd (let z : ◌≡◌ {A = ℕ} 0 1 = cc in omega arith)
-      go (neither t) e h = rw e
+      go : (j : Joint) → Err r ≡ listing m p j → refusal_text r.text (rule_number r.rule) r.line ≡ listed m p j
+      go (both x y) e = absurd (cc)
+      go (neither t) e = let z : r ≡ t = cc in rw z
 
   -- A reply with clashes has them in its rows.
-  rows-listed : r.refused ≡ false → Listed r.clashes × (lines_of r.clashes ≡ listing_text m p cm cp)
+  rows-listed : (c : ClashList) → Ok c ≡ listing m p (read_both Exact cm m cp p) → Listed c × (lines_of c ≡ listing_text m p cm cp)
   unfolding listing_text
-  rows-listed = go (read_both Exact cm m cp p) refl replied
+  rows-listed c = go (read_both Exact cm m cp p) refl
     where
-      go : (j : Joint) → read_both Exact cm m cp p ≡ j → r ≡ listing m p j → r.refused ≡ false → Listed r.clashes × (lines_of r.clashes ≡ listed m p j)
-      go (both x y) f e h =
+      go : (j : Joint) → read_both Exact cm m cp p ≡ j → Ok c ≡ listing m p j → Listed c × (lines_of c ≡ listed m p j)
+      go (both x y) f e =
           let l = clashes_of m p y.signals in
           let few = clashes-few m p cm cp x y f in
-          rw e (
+          let z : c ≡ in_rows l = cc in
+          rw z (
             record { few = few; size = omega (arith, length-append l (replicate (32 - length l) unused), length-replicate {A = Clash} (32 - length l) unused) },
             ap clash_lines (take-append_seam l (replicate (32 - length l) unused)),
           )
-      go (neither t) f e h = absurd (let z : ◌≡◌ {A = ℕ} 0 1 = cc in omega arith)
+      go (neither t) f e = absurd (cc)
 
-  pub listed-rows : r.refused ≡ false → Listed r.clashes
-  listed-rows h = (rows-listed h).0
-
-  pub listed-lines : r.refused ≡ false → lines_of r.clashes ≡ listing_text m p cm cp
-  listed-lines h = (rows-listed h).1
+  pub listed-lines : (c : ClashList) → Ok c ≡ listing m p (read_both Exact cm m cp p) → lines_of c ≡ listing_text m p cm cp
+  listed-lines c e = (rows-listed c e).1
 
 -- A text that was put, under another name.
 pub put_as : (d s t : List ℕ) → s ≡ t → (k : ℕ) (r : ℕ) (b : List ℕ) → record { value : r ≡ after (length d) 0 s; out_after : b ≡ stored d 0 s; upper_bound : r ≤ k } → k ≤ 768

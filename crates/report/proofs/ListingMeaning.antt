@@ -15,13 +15,15 @@ use Rattle.text.specs.Clashes.{clashes_of}
 use Rattle.text.proofs.Archive.{unless_listed, listed as by-clashes}
 use Rattle.report.specs.Lines.{clash_row}
 use Rattle.report.specs.Listing.{clash_lines, listed, listing_text, FirstLine}
+use Rattle.theory.specs.declared.Rule.TheVariants as rule
+use Rattle.theory.specs.Rules.{rule_number}
 
 no_bytes : (k : Clash) (l : List Clash) → clash_lines (k ∷ l) ≡ [] → ⊥
 unfolding clash_lines printed
 no_bytes k l e = omega (arith, ap length e, length-append (tabbed (clash_row k)) (10 ∷ printed (map clash_row l)))
 
 both-refused : (x y : Reading) (r : TextRefusal) → both x y ≡ neither r → ⊥
-both-refused x y r e = let z : ◌≡◌ {A = ℕ} 0 1 = cc in omega arith
+both-refused x y r e = cc
 
 module _ (m p : List ℕ) (cm cp : ℕ) (x y : Reading) (taken : read_both Exact cm m cp p ≡ both x y) where
   abbrev clashes : List Clash
@@ -51,15 +53,15 @@ module _ (m p : List ℕ) (cm cp : ℕ) (x y : Reading) (taken : read_both Exact
       back (k ∷ l) e f = absurd (both-refused x y _ (sym e))
 
   -- Where the reading refuses them, it is by 28, in the file and at the line that the first line of the list begins with.
-  pub refused-first : (r : TextRefusal) → read_both Folded cm m cp p ≡ neither r → (r.number ≡ 28) × FirstLine (listing_text m p cm cp) r.text r.line
+  pub refused-first : (r : TextRefusal) → read_both Folded cm m cp p ≡ neither r → (rule_number r.rule ≡ 28) × FirstLine (listing_text m p cm cp) r.text r.line
   unfolding clash_lines
   refused-first r e = go clashes (sym reading-is ∙ e) lines_are
     where
       go : (l : List Clash) → unless_listed l (both x y) ≡ neither r → listing_text m p cm cp ≡ clash_lines l
-          → (r.number ≡ 28) × FirstLine (listing_text m p cm cp) r.text r.line
+          → (rule_number r.rule ≡ 28) × FirstLine (listing_text m p cm cp) r.text r.line
       go [] f g = absurd (both-refused x y r f)
       go (k ∷ l) f g =
-          let same : record { number = 28; text = k.later.text; line = k.later.line } ≡ r = cc in
+          let same : record { rule = rule.NameClash; text = k.later.text; line = k.later.line } ≡ r = cc in
           rw (← same) (refl, record { others = decimal k.first.text ∷ decimal k.first.line ∷ []; rows = map clash_row l; lines = g })
 
   -- The reading refuses them exactly if a line is listed.
@@ -73,4 +75,4 @@ module _ (m p : List ℕ) (cm cp : ℕ) (x y : Reading) (taken : read_both Exact
       go : (l : List Clash) → read_both Folded cm m cp p ≡ unless_listed l (both x y) → listing_text m p cm cp ≡ clash_lines l → ¬ (listing_text m p cm cp ≡ [])
           → (r : TextRefusal) × (read_both Folded cm m cp p ≡ neither r)
       go [] e f some = absurd (some f)
-      go (k ∷ l) e f some = (record { number = 28; text = k.later.text; line = k.later.line }, e)
+      go (k ∷ l) e f some = (record { rule = rule.NameClash; text = k.later.text; line = k.later.line }, e)

@@ -5,28 +5,26 @@ use mathlib.Core.List.{List, []}
 use native.Mathlib.Omega.{arith}
 use Prim.Native.Nat.{ℕ, ◌*◌}
 use lib.ListN.{length}
+use Rattle.std.specs.Prelude.{Result, Ok, Err}
 use Rattle.theory.specs.declared.Automaton.{Automaton}
 use Rattle.theory.specs.declared.Refusal.{Refusal}
-use Rattle.theory.specs.declared.Checked.{Checked}
-use Rattle.theory.specs.declared.Checked.TheVariants.{Accepted, Refused}
 use Rattle.theory.specs.Table.{Table, table, cells_of, composition, synthesis, controller, kept_count, step_count, end_count}
-use Rattle.theory.specs.Checks.{first, synthesis_checks}
+use Rattle.theory.specs.Checks.{first, unless_refused, synthesis_checks}
 use Rattle.theory.proofs.Bounded.{length-tabulate}
-use Rattle.theory.proofs.Checks.{first-append, first-accepted, checks_premises}
+use Rattle.theory.proofs.Checks.{first-refused, first-accepted, checks_premises}
 use Rattle.theory.proofs.Numbering.{pair_lt}
 use Rattle.reach.specs.Marks.{Searchable}
-use Rattle.emit.specs.Buffer.{stored, after}
 use Rattle.report.proofs.Lines.{Prints}
 use Rattle.reach.specs.Ends.{ends_in}
 use Rattle.reach.proofs.Ends.{ends_of_table}
 use Rattle.table.specs.StepCounts.{steps_in}
 use Rattle.table.proofs.StepCounts.{steps_of_table}
 use Rattle.synthesis.specs.declared.Synthesis.{Synthesis}
-use Rattle.synthesis.specs.declared.Synthesis.TheVariants as made
 use Rattle.synthesis.specs.Contract.{verdict, decided_of, synthesis_reply, synthesis_cells, synthesis_flags}
-use Rattle.report.specs.Lines.{refusal_text, figures}
+use Rattle.report.specs.Lines.{figures}
 use Rattle.report.specs.Report.{text_checks, with_text, report_checks, result_text}
-use Rattle.report.specs.Parts.{six_of, is_refused, answer_text, Answers, reply_checked, reply_text, Makes}
+use Rattle.report.specs.Parts.{six_of, Answers, made_checked, made_text, Makes}
+use Rattle.report.proofs.Texts.{refused_by, accepted_by}
 
 -- ---- the six lines over the buffers
 
@@ -36,85 +34,47 @@ pub six_put : (d : List ℕ) (compatible : Bool) (h : Automaton) (kept rounds st
 unfolding six_of
 six_put d compatible h kept rounds steps ends cells flags r b e f g p = rw (e, f, g) at p
 
--- ---- the reply
-
-module _ (names : List (List ℕ)) (s : Synthesis) (cells flags out : List ℕ) (e : ℕ) (out' : List ℕ) where
-  abbrev Tells : Bool → Type 0
-  Tells refused = Answers (reply_checked names s cells) (reply_text names s cells flags) out refused e out'
-
-  pub tell_refused : (r : Refusal) → s ≡ made.Refused r → (refused : Bool) → refused ≡ true → Prints out 0 (refusal_text r.table r.number 0) e out'
-      → Tells refused
-  tell_refused r q refused w p = record { refuses = w ∙ rw q; ends = rw q p.value; stands = rw q p.out_after }
-
-  pub tell_none : (h : Automaton) (n : ℕ) → s ≡ made.NoController h n → Prints out 0 (six_of false h n cells flags) e out' → Tells false
-  tell_none h n q p = record { refuses = rw q; ends = rw q p.value; stands = rw q p.out_after }
-
-  pub tell_yes : (h : Automaton) (n : ℕ) → s ≡ made.Controller h n → (refused : Bool)
-      → Answers (first (text_checks names (table h cells))) (with_text names (table h cells) (six_of true h n cells flags)) out refused e out'
-      → Tells refused
-  tell_yes h n q refused i = rw q i
-
 -- ---- the two tables
 
-module _ (names : List (List ℕ)) (a b : Table) (cells flags cells' flags' : List ℕ) (sized : length cells ≡ length flags * 32) (s : Synthesis)
+module _ (names : List (List ℕ)) (a b : Table) (cells flags cells' flags' : List ℕ) (sized : length cells ≡ length flags * 32) (s : Result Synthesis Refusal)
     (replied : s ≡ synthesis_reply a b (length cells) (length flags)) (cells_left : cells' ≡ synthesis_cells a b cells (length flags))
-    (flags_left : flags' ≡ synthesis_flags a b (length cells) flags) (out : List ℕ) (refused : Bool) (e : ℕ) (out' : List ℕ)
-    (tells : Answers (reply_checked names s cells') (reply_text names s cells' flags') out refused e out') where
+    (flags_left : flags' ≡ synthesis_flags a b (length cells) flags) where
   abbrev n : ℕ
   n = length flags
 
   abbrev t : Table
   t = controller a b
 
-  abbrev checked : Checked
+  abbrev checked : Result (Unit {0}) Refusal
   checked = first (synthesis_checks a b (n * 32) n)
 
   -- Both the maker's checks and the writer's.
-  abbrev whole : Checked
+  abbrev whole : Result (Unit {0}) Refusal
   whole = first (report_checks names a b n)
 
-  -- What is told of the reply is what is told of the tables.
-  abbrev Same : Type 0
-  Same = (reply_checked names s cells' ≡ whole) × (answer_text (reply_checked names s cells') (reply_text names s cells' flags') ≡ answer_text whole (result_text names a b))
+  by_checks : s ≡ unless_refused checked Err (Ok (decided_of a b))
+  unfolding synthesis_reply
+  by_checks = rw sized at replied
 
-  makes : Same → (whole ≡ Accepted → (cells' ≡ t.cells) × (flags' ≡ (synthesis a b).flags)) → Makes names a b n out refused e cells' flags' out'
-  makes (k, l) result = record {
-    answers = record {
-      refuses = tells.refuses ∙ ap is_refused k;
-      ends = tells.ends ∙ ap (after (length out) 0) l;
-      stands = tells.stands ∙ ap (stored out 0) l;
-    };
-    cells_made = λ q. (result q).0;
-    flags_made = λ q. (result q).1;
-  }
+  pub pairs_refused : (r : Refusal) → s ≡ Err r → (out : List ℕ) → Makes names a b n out (Err r) cells' flags' out
+  unfolding report_checks
+  pairs_refused r q out =
+      let no : checked ≡ Err r = refused_by (decided_of a b) checked r (sym by_checks ∙ q) in
+      let e : whole ≡ Err r = first-refused (synthesis_checks a b (n * 32) n) _ r no in
+      let never : whole ≡ Ok tt → ⊥ = λ f. cc (e, f) in
+      record { answers = record { answers = rw e; stands = rw e }; cells_made = λ f. absurd (never f); flags_made = λ f. absurd (never f) }
 
-  module _ (r : Refusal) (no : checked ≡ Refused r) where
-    reply_refused : s ≡ made.Refused r
-    unfolding synthesis_reply
-    reply_refused = replied ∙ rw (sized, no)
+  module _ (y : Synthesis) (q : s ≡ Ok y) where
+    accepted : (checked ≡ Ok tt) × (decided_of a b ≡ y)
+    accepted = accepted_by (decided_of a b) checked y (sym by_checks ∙ q)
 
-    whole-refused : whole ≡ Refused r
-    unfolding report_checks
-    whole-refused = first-append (synthesis_checks a b (n * 32) n) _ ∙ rw no
-
-    never : whole ≡ Accepted → ⊥
-    never q = let z : ◌≡◌ {A = ℕ} 0 1 = cc (whole-refused) in omega arith
-
-    refused-made : Makes names a b n out refused e cells' flags' out'
-    refused-made = makes (rw (reply_refused, whole-refused), rw (reply_refused, whole-refused)) (λ q. absurd (never q))
-
-  module _ (yes : checked ≡ Accepted) where
     cells_are : cells' ≡ t.cells
     unfolding synthesis_cells
-    cells_are = cells_left ∙ rw (sized, yes)
+    cells_are = cells_left ∙ rw (sized, accepted.0)
 
     flags-are : flags' ≡ (synthesis a b).flags
     unfolding synthesis_flags
-    flags-are = flags_left ∙ rw (sized, yes)
-
-    decided : s ≡ decided_of a b
-    unfolding synthesis_reply
-    decided = replied ∙ rw (sized, yes)
+    flags-are = flags_left ∙ rw (sized, accepted.0)
 
     full : length t.cells ≡ t.header.states * 32
     unfolding composition cells_of
@@ -127,7 +87,8 @@ module _ (names : List (List ℕ)) (a b : Table) (cells flags cells' flags' : Li
     -- The sizes fit.
     fits : Searchable t.header.initial t.header.states (length t.cells)
     fits =
-        let v = checks_premises a b (n * 32) n yes in record {
+        let v = checks_premises a b (n * 32) n accepted.0 in
+        record {
           few = v.few_pairs;
           first = pair_lt a.header.states b.header.states (omega (arith, v.specification.initial)) v.component.initial v.specification.initial;
           cells_each = full;
@@ -146,28 +107,23 @@ module _ (names : List (List ℕ)) (a b : Table) (cells flags cells' flags' : Li
         (λ i. ends_in (table t.header (cells_are i)) (flags-are i)) ∙ ends_of_table t (synthesis a b).flags fits flagged in
         λ i. figures v t.header.states (kept_count (flags-are i)) (synthesis a b).rounds (steps i) (ends i)
 
-    checked-same : reply_checked names s cells' ≡ whole
+    checked-same : made_checked names y cells' ≡ whole
     unfolding report_checks first
-    checked-same = (λ i. reply_checked names (decided i) (cells_are i)) ∙ go (synthesis a b).compatible ∙ sym (first-accepted (synthesis_checks a b (n * 32) n) _ yes)
+    checked-same =
+        (λ i. made_checked names (sym accepted.1 i) (cells_are i)) ∙ go (synthesis a b).compatible ∙ sym (first-accepted (synthesis_checks a b (n * 32) n) _ accepted.0)
       where
-        go : (v : Bool) → reply_checked names (verdict v t.header (synthesis a b).rounds) t.cells ≡ first (cond v (text_checks names t) [])
+        go : (v : Bool) → made_checked names (verdict v t.header (synthesis a b).rounds) t.cells ≡ first (cond v (text_checks names t) [])
         go true = refl
         go false = refl
 
-    text_same : reply_text names s cells' flags' ≡ result_text names a b
+    text_same : made_text names y cells' flags' ≡ result_text names a b
     unfolding result_text
-    text_same = (λ i. reply_text names (decided i) cells' flags') ∙ go (synthesis a b).compatible
+    text_same = (λ i. made_text names (sym accepted.1 i) cells' flags') ∙ go (synthesis a b).compatible
       where
-        go : (v : Bool) → reply_text names (verdict v t.header (synthesis a b).rounds) cells' flags' ≡ cond v (with_text names t (figured v)) (figured v)
+        go : (v : Bool) → made_text names (verdict v t.header (synthesis a b).rounds) cells' flags' ≡ cond v (with_text names t (figured v)) (figured v)
         go true = λ i. with_text names (table t.header (cells_are i)) (six true i)
         go false = six false
 
-    accepted-made : Makes names a b n out refused e cells' flags' out'
-    accepted-made = makes (checked-same, λ i. answer_text (checked-same i) (text_same i)) (λ q. (cells_are, flags-are))
-
-  pub pairs_made : Makes names a b n out refused e cells' flags' out'
-  pairs_made = go checked refl
-    where
-      go : (k : Checked) → checked ≡ k → Makes names a b n out refused e cells' flags' out'
-      go Accepted q = accepted-made q
-      go (Refused r) q = refused-made r q
+    pub pairs_made : (out : List ℕ) (answer : Result ℕ Refusal) (out' : List ℕ) → Answers (made_checked names y cells') (made_text names y cells' flags') out answer out'
+        → Makes names a b n out answer cells' flags' out'
+    pairs_made out answer out' w = record { answers = rw (checked-same, text_same) at w; cells_made = λ f. cells_are; flags_made = λ f. flags-are }

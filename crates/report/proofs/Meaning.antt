@@ -9,8 +9,8 @@ use native.Mathlib.Omega.{arith}
 use lib.Dec.{T}
 use lib.ListN.{length, get_or, drop, replicate}
 use borrow.Author.Tests.{ne_eqb}
-use Rattle.theory.specs.declared.Checked.{Checked}
-use Rattle.theory.specs.declared.Checked.TheVariants.{Accepted, Refused}
+use Rattle.std.specs.Prelude.{Result, Ok, Err}
+use Rattle.theory.specs.declared.Refusal.{Refusal}
 use Rattle.theory.specs.Numbered.{interface, reached}
 use Rattle.theory.specs.Reachability.{End}
 use Rattle.theory.specs.Table.{Table, automaton, mirror_table, cells_of, composition, synthesis, controller, kept_count, step_count, is_end, end_count}
@@ -30,9 +30,11 @@ use Rattle.text.proofs.Decimal.{Digits, digits_of_lem}
 use Rattle.emit.specs.Buffer.{stored}
 use Rattle.emit.proofs.Buffer.{stored_front}
 use Rattle.report.specs.SignalNames.{signal_names}
-use Rattle.report.specs.Lines.{refusal_text, figures}
+use Rattle.report.specs.Lines.{refusal_text, rule_text, figures}
 use Rattle.report.specs.Report.{lent_pairs, room_of, report_checks, result_text, checked_of, by_reading, report_text, report_buffers}
 use Rattle.report.proofs.Whole.{lent_fits}
+use Rattle.theory.specs.declared.Rule.TheVariants as rule
+use Rattle.theory.specs.Rules.{rule_number}
 
 -- What is printed of a number below 100,000 is its decimal: digits, five at most, no needless zero before them, and their value is the number.
 pub printed-whole : (n : ℕ) → n < 100000 → Digits 4 n (decimal n)
@@ -90,16 +92,16 @@ module _ (names : List (List ℕ)) (a b : Table) (cells flags : ℕ) where
   unfolding end_count
   ends-few = count-le count _
 
-  maker_accepted : first (report_checks names a b lent) ≡ Accepted → first (synthesis_checks a b (lent * 32) lent) ≡ Accepted
+  maker_accepted : first (report_checks names a b lent) ≡ Ok tt → first (synthesis_checks a b (lent * 32) lent) ≡ Ok tt
   unfolding report_checks
   maker_accepted e = (first_part (synthesis_checks a b (lent * 32) lent) _ e).0
 
   -- Where no check applies, as many pairs are lent as there are.
-  all-lent : first (report_checks names a b lent) ≡ Accepted → lent ≡ count
+  all-lent : first (report_checks names a b lent) ≡ Ok tt → lent ≡ count
   all-lent e = let (_, (_, flags)) = (synthesis-accepted a b (lent * 32) lent).0 (maker_accepted e) in flags
 
   -- Figures are printed only where no check applies.
-  pub figures-small : first (report_checks names a b lent) ≡ Accepted → Small a b
+  pub figures-small : first (report_checks names a b lent) ≡ Ok tt → Small a b
   figures-small e =
       let v = checks_premises a b (lent * 32) lent (maker_accepted e) in
       let few : count ≤ 1024 = omega (arith, all-lent e, lent-small) in
@@ -112,7 +114,7 @@ module _ (names : List (List ℕ)) (a b : Table) (cells flags : ℕ) where
       }
 
   -- The ends that are printed are those of the composition.
-  pub ends_mean : first (report_checks names a b lent) ≡ Accepted → Ends a b
+  pub ends_mean : first (report_checks names a b lent) ≡ Ok tt → Ends a b
   unfolding composition end_count
   ends_mean e =
       let v = checks_premises a b (lent * 32) lent (maker_accepted e) in
@@ -124,13 +126,13 @@ module _ (names : List (List ℕ)) (a b : Table) (cells flags : ℕ) where
         none = ends.none-ended a (mirror_table b) v.component w few;
       }
 
-  makers_ten : Premises a b → 1024 < count → first (synthesis_checks a b (lent * 32) lent) ≡ refuse 10 0
+  makers_ten : Premises a b → 1024 < count → first (synthesis_checks a b (lent * 32) lent) ≡ refuse rule.RoomLength 0
   makers_ten v more =
       let d : (lent ≡ count) → ⊥ = λ q. omega (arith, lent-small) in
       premises_ten a b (lent * 32) lent v (or_right (wrong_cells count (lent * 32)) (wrong_bytes count lent) (rw (ne_eqb lent count d) tt))
 
   -- More than 1,024 pairs gets 10, of tables that no earlier check refuses.
-  pub too_many : Premises a b → 1024 < count → first (report_checks names a b lent) ≡ refuse 10 0
+  pub too_many : Premises a b → 1024 < count → first (report_checks names a b lent) ≡ refuse rule.RoomLength 0
   unfolding report_checks
   too_many v more = first-refused (synthesis_checks a b (lent * 32) lent) _ _ (makers_ten v more)
 
@@ -161,11 +163,11 @@ record Passed (room : ℕ) (j : Joint) : Type 0 where
   component : Reading
   specification : Reading
   read : j ≡ both component specification
-  accepted : checked_of room component specification ≡ Accepted
+  accepted : checked_of room component specification ≡ Ok tt
 
 module _ (room : ℕ) where
   abbrev printed_of : Joint → List ℕ
-  printed_of = by_reading room refusal_text (λ x y. result_text (signal_names y.signals) (table_read x) (table_read y))
+  printed_of = by_reading room rule_text (λ x y. result_text (signal_names y.signals) (table_read x) (table_read y))
 
   -- Where the line of a refusal is printed, all else is as after a refusal.
   line_refused : {A : Type 0} (refused : A) (made : Reading → Reading → A) (j : Joint) (file number line : ℕ) → printed_of j ≡ refusal_text file number line
@@ -174,17 +176,17 @@ module _ (room : ℕ) where
   line_refused refused made (neither r) file number line e = refl
   line_refused refused made (both x y) file number line e = go (checked_of room x y) refl
     where
-      go : (k : Checked) → checked_of room x y ≡ k → by_reading room (λ file number line. refused) made (both x y) ≡ refused
-      go Accepted q = absurd (six-no-line _ (synthesis (table_read x) (table_read y)).compatible _ _ _ _ _ _ file number line (rw q at e))
-      go (Refused r) q = rw q
+      go : (k : Result (Unit {0}) Refusal) → checked_of room x y ≡ k → by_reading room (λ file number line. refused) made (both x y) ≡ refused
+      go (Ok tt) q = absurd (six-no-line _ (synthesis (table_read x) (table_read y)).compatible _ _ _ _ _ _ file number line (rw q at e))
+      go (Err r) q = rw q
 
   no-line-passed : (j : Joint) → ((file number line : ℕ) → printed_of j ≡ refusal_text file number line → ⊥) → Passed room j
-  no-line-passed (neither r) h = absurd (h r.text r.number r.line refl)
+  no-line-passed (neither r) h = absurd (h r.text (rule_number r.rule) r.line refl)
   no-line-passed (both x y) h = go (checked_of room x y) refl
     where
-      go : (k : Checked) → checked_of room x y ≡ k → Passed room (both x y)
-      go Accepted q = record { component = x; specification = y; read = refl; accepted = q }
-      go (Refused r) q = absurd (h r.table r.number 0 (rw q))
+      go : (k : Result (Unit {0}) Refusal) → checked_of room x y ≡ k → Passed room (both x y)
+      go (Ok tt) q = record { component = x; specification = y; read = refl; accepted = q }
+      go (Err r) q = absurd (h r.table (rule_number r.rule) 0 (rw q))
 
   passed-printed : (j : Joint) (w : Passed room j) → printed_of j ≡ result_text (signal_names w.specification.signals) (table_read w.component) (table_read w.specification)
   passed-printed j w = ap printed_of w.read ∙ rw w.accepted

@@ -10,11 +10,10 @@ use native.Mathlib.Decide.{dec_lt}
 use lib.Dec.{T, eqb}
 use lib.ListN.{length, get_or, get_or-eq_default}
 use borrow.Author.Tests.{eq-eqb}
+use Rattle.std.specs.Prelude.{Err}
 use Rattle.theory.specs.declared.Refusal.{Refusal}
-use Rattle.theory.specs.declared.Checked.{Checked}
-use Rattle.theory.specs.declared.Checked.TheVariants.{Accepted, Refused}
 use Rattle.theory.specs.Table.{Table}
-use Rattle.theory.specs.Checks.{Check, refuse_at, first, unless_refused, Passes, declared, table_checks}
+use Rattle.theory.specs.Checks.{Check, refuse_at, first, Passes, declared, table_checks}
 use Rattle.theory.proofs.Bounded.{any_at, at-any, get_d_tabulate}
 use Rattle.theory.proofs.Tests.{and_left, and_right, and_both, test}
 use Rattle.text.specs.declared.Spelling.TheVariants.{Folded}
@@ -24,9 +23,10 @@ use Rattle.text.specs.Lookup.{nobody}
 use Rattle.text.specs.Writing.{name_of, misnamed, ambiguous, text_length, writer_checks}
 use Rattle.text.proofs.Names.{match_sym}
 use Rattle.text.proofs.Archive.{unlike-both}
-use Rattle.writer.specs.declared.Printed.TheVariants as reply
 use Rattle.writer.specs.Contract.{writer_reply}
 use Rattle.report.specs.SignalNames.{signal_names}
+use Rattle.report.proofs.Texts.{refused_by}
+use Rattle.theory.specs.Rules.{rule_number}
 
 -- ---- the first check that applies
 
@@ -38,19 +38,19 @@ Asked false passes later = later
 -- No check with this number applies where none before it does.
 abbrev NeverFirst : ℕ → List Check → Type 0
 NeverFirst n [] = Unit {0}
-NeverFirst n (c ∷ l) = Asked (eqb c.number n) (Passes c) (Passes c → NeverFirst n l)
+NeverFirst n (c ∷ l) = Asked (eqb (rule_number c.rule) n) (Passes c) (Passes c → NeverFirst n l)
 
-never-refused : (n : ℕ) (l : List Check) → NeverFirst n l → (r : Refusal) → first l ≡ Refused r → ¬ (r.number ≡ n)
+never-refused : (n : ℕ) (l : List Check) → NeverFirst n l → (r : Refusal) → first l ≡ Err r → ¬ (rule_number r.rule ≡ n)
 unfolding first
-never-refused n [] w r e = absurd (let z : ◌≡◌ {A = ℕ} 0 1 = cc in omega arith)
-never-refused n (c ∷ l) w r e = go c.applies (eqb c.number n) refl w (λ v. never-refused n l v r) e
+never-refused n [] w r e = absurd (cc)
+never-refused n (c ∷ l) w r e = go c.applies (eqb (rule_number c.rule) n) refl w (λ v. never-refused n l v r) e
   where
-    go : (b v : Bool) → eqb c.number n ≡ v → Asked v (¬ T b) (¬ T b → NeverFirst n l) → (NeverFirst n l → first l ≡ Refused r → ¬ (r.number ≡ n))
-        → cond b (refuse_at c.number c.table c.location) (first l) ≡ Refused r → ¬ (r.number ≡ n)
+    go : (b v : Bool) → eqb (rule_number c.rule) n ≡ v → Asked v (¬ T b) (¬ T b → NeverFirst n l) → (NeverFirst n l → first l ≡ Err r → ¬ (rule_number r.rule ≡ n))
+        → cond b (refuse_at c.rule c.table c.location) (first l) ≡ Err r → ¬ (rule_number r.rule ≡ n)
     go true true f w rest e q = w.0 tt
     go true false f w rest e q =
-        let g : c.number ≡ n = (let h : c.number ≡ r.number = cc in h) ∙ q in
-        absurd (let k = eq-eqb c.number n g in let z : ◌≡◌ {A = ℕ} 0 1 = cc in omega arith)
+        let g : rule_number c.rule ≡ n = (let h : c.rule ≡ r.rule = cc in ap rule_number h) ∙ q in
+        absurd (let k = eq-eqb (rule_number c.rule) n g in cc)
     go false true f w rest e q = rest (w.1 (λ t. t)) e q
     go false false f w rest e q = rest (w (λ t. t)) e q
 
@@ -91,16 +91,11 @@ module _ (cm cp : ℕ) (m p : List ℕ) (x y : Reading) (read : read_both Folded
         ]
 
     -- Of a sequencer, or of any table with signals of the two texts, the writer gives no 28.
-    pub never_28 : (room : ℕ) (r : Refusal) → first (writer_checks t name names room) ≡ Refused r → ¬ (r.number ≡ 28)
+    pub never_28 : (room : ℕ) (r : Refusal) → first (writer_checks t name names room) ≡ Err r → ¬ (rule_number r.rule ≡ 28)
     unfolding writer_checks table_checks
     never_28 room r = never-refused 28 (writer_checks t name names room) (λ _ _ _ _ _ _ _ right _. (names-told right, λ _ _. tt)) r
 
     -- No reply of the writer has 28 either.
-    pub reply_never_28 : (room : ℕ) (r : Refusal) → writer_reply t name names room ≡ reply.Refused r → ¬ (r.number ≡ 28)
+    pub reply_never_28 : (room : ℕ) (r : Refusal) → writer_reply t name names room ≡ Err r → ¬ (rule_number r.rule ≡ 28)
     unfolding writer_reply
-    reply_never_28 room r = go (first (writer_checks t name names room)) refl
-      where
-        go : (k : Checked) → first (writer_checks t name names room) ≡ k
-            → unless_refused k reply.Refused (reply.Length (text_length t name names)) ≡ reply.Refused r → ¬ (r.number ≡ 28)
-        go Accepted q e = absurd (let z : ◌≡◌ {A = ℕ} 0 1 = cc in omega arith)
-        go (Refused k) q e = let same : k ≡ r = cc in never_28 room r (q ∙ ap Refused same)
+    reply_never_28 room r e = never_28 room r (refused_by (text_length t name names) (first (writer_checks t name names room)) r e)

@@ -1,20 +1,14 @@
 -- The report of two texts: what was read is lent on to the maker, and what is left stands in the program's buffers.
-use mathlib.Core.Path.{◌≡◌, refl, sym, ap, subst, ◌∙◌}
-use mathlib.Core.Bool.{Bool, true, false, cond}
-use mathlib.Core.List.{List, ◌++◌}
-use Prim.Native.Nat.{ℕ, ◌*◌, ◌/◌, ◌≤◌, ◌<◌}
-use native.Mathlib.Nat.{mul-le-mul}
-use native.Mathlib.Decide.{dec_le}
+use mathlib.Core.Path.{◌≡◌, refl, sym, ap, ◌∙◌}
+use mathlib.Core.List.{List}
+use Prim.Native.Nat.{ℕ, ◌*◌, ◌≤◌}
 use native.Mathlib.Omega.{arith}
-use lib.Dec.{T}
 use lib.ListN.{length, take, replicate}
-use lib.Seq.{length-take-le, take_at}
-use borrow.Author.Tests.{le-leb, lt-leb}
+use Rattle.std.specs.Prelude.{Result, Ok, Err, min}
 use Rattle.theory.specs.declared.Automaton.{Automaton}
-use Rattle.theory.specs.declared.Checked.{Checked}
-use Rattle.theory.specs.declared.Checked.TheVariants.{Accepted, Refused}
-use Rattle.theory.specs.Table.{Table, table, synthesis}
-use Rattle.theory.specs.Checks.{first, unless_refused}
+use Rattle.theory.specs.declared.Refusal.{Refusal}
+use Rattle.theory.specs.Table.{table}
+use Rattle.theory.specs.Checks.{unless_refused}
 use Rattle.text.specs.declared.TextRefusal.{TextRefusal}
 use Rattle.text.specs.declared.Spelling.TheVariants.{Folded}
 use Rattle.text.specs.Reading.{Reading, Joint, both, neither, read_both, cells_first, cells_second, table_read}
@@ -26,85 +20,20 @@ use Rattle.reader.specs.declared.NamedTables.{NamedTables}
 use Rattle.reader.specs.Contract.{signals_read, named_reply}
 use Rattle.report.specs.SignalNames.{signal_names, names_in}
 use Rattle.report.proofs.SignalNames.{named-signals}
-use Rattle.report.specs.Lines.{refusal_text}
+use Rattle.report.specs.Lines.{rule_text, refusal_text}
 use Rattle.report.proofs.LineLengths.{within}
-use Rattle.report.specs.Report.{lesser_of, room_of, report_checks, checked_of, report_text, Buffers, report_buffers}
-use Rattle.report.specs.Parts.{is_refused, Makes, Holds, Fitting, Leaves, pairs_for}
+use Rattle.report.specs.Report.{room_of, result_text, checked_of, by_reading, report_text, Buffers, report_buffers}
+use Rattle.report.specs.Parts.{Holds, Fitting, Leaves, report_reply, report_bytes}
+use Rattle.report.proofs.Texts.{answered, declined}
 use Rattle.report.proofs.Lengths.{report_short}
-
--- ---- the lesser of two numbers
-
-module _ (a b : ℕ) where
-  pub lesser_first : a ≤ b → a ≡ lesser_of a b
-  lesser_first h = rw (le-leb a b h)
-
-  pub lesser_second : b < a → b ≡ lesser_of a b
-  lesser_second h = rw (lt-leb a b h)
-
-  lesser_le : (lesser_of a b ≤ a) × (lesser_of a b ≤ b)
-  lesser_le = elim (dec_le a b) [
-    | yes h ↦ rw (le-leb a b h) (let z : a ≤ a = omega arith in z, h)
-    | no g ↦ let l : b < a = omega arith in rw (lt-leb a b l) (let z : b ≤ a = omega arith in z, let w : b ≤ b = omega arith in w)
-  ]
+use Rattle.theory.specs.Rules.{rule_number}
 
 -- ---- the room of the maker
 
-pub few_pairs : (a b : Automaton) (ca cb : List ℕ) → Holds a ca → Holds b cb → a.states * b.states ≤ 16777216
-few_pairs a b ca cb h k = mul-le-mul h.few k.few
-
-pub lent_is : (a b cells flags lent room n : ℕ) → lent ≡ lesser_of (cells / 32) flags → room ≡ lesser_of lent 1024 → n ≡ lesser_of (a * b) room
-    → n ≡ lesser_of (a * b) (room_of cells flags)
-lent_is a b cells flags lent room n e f g = g ∙ ap (lesser_of (a * b)) (f ∙ ap (λ k. lesser_of k 1024) e)
-
-pub lent_fits : (pairs cells flags n : ℕ) → n ≡ lesser_of pairs (room_of cells flags) → Fitting cells flags n
-lent_fits pairs cells flags n n-lent =
-    let x = lesser_le (cells / 32) flags in
-    let y = lesser_le (lesser_of (cells / 32) flags) 1024 in
-    let z = lesser_le pairs (room_of cells flags) in
-    record { cells_fit = omega (arith, n-lent, x, y, z); flags_fit = omega (arith, n-lent, x, y, z); own = omega (arith, n-lent, y, z) }
-
--- ---- what is left in a buffer
-
-module _ (b : Bool) (l x y : List ℕ) where
-  pub on-false : b ≡ false → l ≡ y → l ≡ cond b x y
-  on-false e f = rw e f
-
--- By the answer, what the definition says: a result that is made only where no check applies.
-left_by : (k : Checked) (refused : Bool) → refused ≡ is_refused k → (l made made' : List ℕ) → (k ≡ Accepted → made ≡ made')
-    → cond refused l made ≡ unless_refused k (λ r. l) made'
-left_by Accepted refused e l made made' h = rw e (h refl)
-left_by (Refused r) refused e l made made' h = rw e
-
--- The result out of room of its own, of which the maker was lent parts: i cells, j flags.
-module _ (names : List (List ℕ)) (a b : Table) (cells flags : List ℕ) (n : ℕ) (n-lent : n ≡ pairs_for a b cells flags) (own own' : List ℕ)
-    (i j : ℕ) (i-is : i ≡ n * 32) (j-is : j ≡ n) (i-fits : i ≤ length own) (j-fits : j ≤ length own') where
-  lent-own : length (take j own') ≡ pairs_for a b cells flags
-  lent-own = length-take-le j own' j-fits ∙ j-is ∙ n-lent
-
-  pub leaves_made : (out : List ℕ) (refused : Bool) (e : ℕ) (made kept rest rest' cells' flags' out' : List ℕ)
-      → length made ≡ length (take i own) → length kept ≡ length (take j own')
-      → Makes names a b (length (take j own')) out refused e made kept out'
-      → (cells' ≡ cond refused cells (stored cells 0 (take i (made ++ rest)))) × (flags' ≡ cond refused flags (stored flags 0 (take j (kept ++ rest'))))
-      → Leaves names a b cells flags out refused e cells' flags' out'
-  leaves_made out refused e made kept rest rest' cells' flags' out' f g w (u, v) =
-      let f' : take i (made ++ rest) ≡ made = take_at made rest i (f ∙ length-take-le i own i-fits) in
-      let g' : take j (kept ++ rest') ≡ kept = take_at kept rest' j (g ∙ length-take-le j own' j-fits) in
-      let k = first (report_checks names a b (pairs_for a b cells flags)) in
-      let w' : Makes names a b (pairs_for a b cells flags) out refused e made kept out' = rw lent-own at w in
-      record {
-        answers = w'.answers;
-        cells_left = u ∙ left_by k refused w'.answers.refuses cells _ _ (λ q. ap (stored cells 0) (f' ∙ w'.cells_made q));
-        flags_left = v ∙ left_by k refused w'.answers.refuses flags _ _ (λ q. ap (stored flags 0) (g' ∙ w'.flags_made q));
-      }
+pub lent_fits : (pairs cells flags n : ℕ) → n ≡ min pairs (room_of cells flags) → Fitting cells flags n
+lent_fits pairs cells flags n e = record { cells_fit = omega (arith, e); flags_fit = omega (arith, e); own = omega (arith, e) }
 
 -- ---- what was read
-
--- The cells of the two tables are parts of longer buffers.
-pub leaves_read : (names : List (List ℕ)) (a b : Automaton) (ca cb : List ℕ) (u v : ℕ) → u ≡ a.states * 32 → v ≡ b.states * 32
-    → (cells flags out : List ℕ) (refused : Bool) (e : ℕ) (cells' flags' out' : List ℕ)
-    → Leaves names (table a (take u ca)) (table b (take v cb)) cells flags out refused e cells' flags' out'
-    → Leaves names (table a (take (a.states * 32) ca)) (table b (take (b.states * 32) cb)) cells flags out refused e cells' flags' out'
-leaves_read names a b ca cb u v eu ev cells flags out refused e cells' flags' out' w = rw (eu, ev) at w
 
 -- What was read of two texts that are not refused.
 record Tables (j : Joint) (r : NamedTables) : Type 0 where
@@ -115,71 +44,53 @@ record Tables (j : Joint) (r : NamedTables) : Type 0 where
   header' : r.specification ≡ second.header
   names : r.names ≡ table_of second.signals
 
-joint-refused : (j : Joint) (r : NamedTables) → r ≡ named_reply j → r.refused ≡ true → j ≡ neither r.refusal
-joint-refused (both x y) r e f = absurd (subst T (sym f ∙ ap (λ k. k.refused) e) tt)
-joint-refused (neither s) r e f = ap neither (sym (ap (λ k. k.refusal) e))
+joint-refused : (j : Joint) (r : TextRefusal) → Err r ≡ named_reply j → j ≡ neither r
+joint-refused (both x y) r e = absurd (cc)
+joint-refused (neither s) r e = let z : s ≡ r = cc in ap neither z
 
-joint-tables : (j : Joint) (r : NamedTables) → r ≡ named_reply j → r.refused ≡ false → Tables j r
-joint-tables (both x y) r e f = record {
-  first = x;
-  second = y;
-  are = refl;
-  header = ap (λ k. k.component) e;
-  header' = ap (λ k. k.specification) e;
-  names = ap (λ k. k.names) e;
-}
-joint-tables (neither s) r e f = absurd (subst T (sym (ap (λ k. k.refused) e) ∙ f) tt)
-
--- A text that was put, with a limit to where it ends, and what is left in the four buffers.
-abbrev pub Ends : (bytes : List ℕ) (end : ℕ) (bytes' text : List ℕ) (left buffers : Buffers) → Type 0
-Ends bytes end bytes' text left buffers =
-    record { value : end ≡ after (length bytes) 0 text; out_after : bytes' ≡ stored bytes 0 text; buffers_after : left ≡ buffers; upper_bound : end ≤ 65608 }
-
--- The contract of the call.
-abbrev Reports : (m p cm cp cells flags bytes : List ℕ) (end : ℕ) (bytes' : List ℕ) → Buffers → Type 0
-Reports m p cm cp cells flags bytes end bytes' left =
-    Ends bytes end bytes' (report_text m p (length cm) (length cp) (length cells) (length flags)) left (report_buffers m p cm cp cells flags)
-
-reports : (m p cm cp cells flags bytes : List ℕ) (end : ℕ) (bytes' : List ℕ) (left : Buffers) → Prints bytes 0 (report_text m p (length cm) (length cp) (length cells) (length flags)) end bytes'
-    → left ≡ report_buffers m p cm cp cells flags → Reports m p cm cp cells flags bytes end bytes' left
-reports m p cm cp cells flags bytes end bytes' left w e =
-    let text = report_text m p (length cm) (length cp) (length cells) (length flags) in
+joint-tables : (j : Joint) (r : NamedTables) → Ok r ≡ named_reply j → Tables j r
+joint-tables (both x y) r e =
+    let z : r ≡ record { component = x.header; specification = y.header; names = table_of y.signals } = cc in
     record {
-      value = w.value;
-      out_after = w.out_after;
-      buffers_after = e;
-      upper_bound = omega (arith, w.value, within (length bytes) 0 text, report_short m p (length cm) (length cp) (length cells) (length flags));
+      first = x;
+      second = y;
+      are = refl;
+      header = ap (λ k. k.component) z;
+      header' = ap (λ k. k.specification) z;
+      names = ap (λ k. k.names) z;
     }
+joint-tables (neither s) r e = absurd (cc)
 
-module _ (cm₀ cp₀ m p cm cp : List ℕ) (k : NamedTables) (replied : k ≡ named_reply (read_both Folded (length cm₀) m (length cp₀) p))
-    (signals-read : signals_of m p k.names ≡ signals_read (read_both Folded (length cm₀) m (length cp₀) p))
+-- What is tried: the answer, and what is left in the buffers.
+abbrev Tried : (m p cm cp cells flags out : List ℕ) → Result ℕ TextRefusal → (out' : List ℕ) → Buffers → Type 0
+Tried m p cm cp cells flags out answer out' left = record {
+  value : answer ≡ report_reply m p (length cm) (length cp) (length cells) (length flags) (length out);
+  out_after : out' ≡ report_bytes m p (length cm) (length cp) (length cells) (length flags) out;
+  buffers_after : left ≡ report_buffers m p cm cp cells flags;
+}
+
+module _ (cm₀ cp₀ m p cm cp : List ℕ)
     (first-left : cm ≡ cells_first (length cm₀) (read_both Folded (length cm₀) m (length cp₀) p))
     (second-left : cp ≡ cells_second (length cp₀) (read_both Folded (length cm₀) m (length cp₀) p)) where
   abbrev j : Joint
   j = read_both Folded (length cm₀) m (length cp₀) p
 
-  module _ (no : k.refused ≡ true) (cells flags : List ℕ) where
-    abbrev r : TextRefusal
-    r = k.refusal
-
+  module _ (r : TextRefusal) (no : Err r ≡ named_reply (read_both Folded (length cm₀) m (length cp₀) p)) (cells flags : List ℕ) where
     none : j ≡ neither r
-    none = joint-refused j k replied no
-
-    text-refused : refusal_text r.text r.number r.line ≡ report_text m p (length cm₀) (length cp₀) (length cells) (length flags)
-    unfolding report_text
-    text-refused = rw none
+    none = joint-refused j r no
 
     left-refused : (cm, cp, cells, flags) ≡ report_buffers m p cm₀ cp₀ cells flags
     unfolding report_buffers
     left-refused = (λ i. (first-left i, second-left i, cells, flags)) ∙ rw none
 
-    pub reading-refused : (out : List ℕ) (e : ℕ) (out' : List ℕ) → Prints out 0 (refusal_text r.text r.number r.line) e out'
-        → Reports m p cm₀ cp₀ cells flags out e out' (cm, cp, cells, flags)
-    reading-refused out e out' w = reports m p cm₀ cp₀ cells flags out e out' _ (rw text-refused at w) left-refused
+    pub reading-refused : (out : List ℕ) → Tried m p cm₀ cp₀ cells flags out (Err r) out (cm, cp, cells, flags)
+    unfolding report_reply report_bytes
+    reading-refused out = record { value = rw none; out_after = rw none; buffers_after = left-refused }
 
-  module _ (yes : k.refused ≡ false) where
+  module _ (k : NamedTables) (yes : Ok k ≡ named_reply (read_both Folded (length cm₀) m (length cp₀) p))
+      (signals-read : signals_of m p k.names ≡ signals_read (read_both Folded (length cm₀) m (length cp₀) p)) where
     given : Tables j k
-    given = joint-tables j k replied yes
+    given = joint-tables j k yes
 
     abbrev a : Automaton
     a = k.component
@@ -227,41 +138,89 @@ module _ (cm₀ cp₀ m p cm cp : List ℕ) (k : NamedTables) (replied : k ≡ n
     second-table : table b (take (b.states * 32) cp) ≡ table_read y
     second-table = λ i. table (given.header' i) (take ((given.header' i).states * 32) (second-cells i))
 
-    module _ (cells flags out : List ℕ) (refused : Bool) (e : ℕ) (cells' flags' out' : List ℕ)
-        (leaves : Leaves (names_in m p k.names) (table a (take (a.states * 32) cm)) (table b (take (b.states * 32) cp)) cells flags out refused e cells' flags' out') where
-      abbrev checked : Checked
+    module _ (cells flags out : List ℕ) (cells' flags' out' : List ℕ) where
+      abbrev checked : Result (Unit {0}) Refusal
       checked = checked_of (room_of (length cells) (length flags)) x y
 
-      left : Leaves (signal_names y.signals) (table_read x) (table_read y) cells flags out refused e cells' flags' out'
-      left = rw (first-table, second-table, names-read) at leaves
+      abbrev Left : Result ℕ Refusal → Type 0
+      Left answer = Leaves (names_in m p k.names) (table a (take (a.states * 32) cm)) (table b (take (b.states * 32) cp)) cells flags out answer cells' flags' out'
 
-      text_put : Prints out 0 (report_text m p (length cm₀) (length cp₀) (length cells) (length flags)) e out'
-      unfolding report_text
-      text_put = rw given.are (record { value = left.answers.ends; out_after = left.answers.stands })
+      left : (answer : Result ℕ Refusal) → Left answer → Leaves (signal_names y.signals) (table_read x) (table_read y) cells flags out answer cells' flags' out'
+      left answer w = rw (first-table, second-table, names-read) at w
 
-      abbrev undone : Buffers
-      undone = (replicate (length cm₀) 65535, replicate (length cp₀) 65535, cells, flags)
+      pub report_made : (e : ℕ) → Left (Ok e) → Tried m p cm₀ cp₀ cells flags out (Ok e) out' (cm, cp, cells', flags')
+      unfolding report_reply report_bytes report_buffers
+      report_made e w =
+          let l = left (Ok e) w in
+          let (taken, ends, stands) = answered _ out out' checked e l.answers in
+          let c = rw taken at l.cells_left in
+          let f = rw taken at l.flags_left in
+          record {
+            value = rw (given.are, taken) (ap Ok ends);
+            out_after = rw (given.are, taken) stands;
+            buffers_after = rw (given.are, taken) (λ i. (first-cells i, second-cells i, c i, f i));
+          }
 
-      abbrev done : Buffers
-      done = let s = synthesis (table_read x) (table_read y) in (x.cells, y.cells, stored cells 0 s.cells, stored flags 0 s.flags)
+      pub report_refused : (r : Refusal) → Left (Err r) → (cm' cp' : List ℕ) → cm' ≡ replicate (length cm) 65535 → cp' ≡ replicate (length cp) 65535
+          → Tried m p cm₀ cp₀ cells flags out (Err (record { rule = r.rule; text = r.table; line = 0 })) out' (cm', cp', cells', flags')
+      unfolding report_reply report_bytes report_buffers
+      report_refused r w cm' cp' u v =
+          let l = left (Err r) w in
+          let (refuses, stands) = declined _ out out' checked r l.answers in
+          let c = rw refuses at l.cells_left in
+          let f = rw refuses at l.flags_left in
+          let u' : cm' ≡ replicate (length cm₀) 65535 = u ∙ ap (λ n. replicate n 65535) (ap length first-cells ∙ sound.first.size) in
+          let v' : cp' ≡ replicate (length cp₀) 65535 = v ∙ ap (λ n. replicate n 65535) (ap length second-cells ∙ sound.second.size) in
+          record {
+            value = rw (given.are, refuses);
+            out_after = rw (given.are, refuses) stands;
+            buffers_after = rw (given.are, refuses) (λ i. (u' i, v' i, c i, f i));
+          }
 
-      -- By the answer, each of the four buffers.
-      by_answer : (k : Checked) → checked ≡ k → (cm' cp' : List ℕ) → cm' ≡ unless_refused k (λ r. replicate (length cm₀) 65535) x.cells
-          → cp' ≡ unless_refused k (λ r. replicate (length cp₀) 65535) y.cells
-          → (cm', cp', cells', flags') ≡ unless_refused k (λ r. undone) done
-      by_answer Accepted q cm' cp' u v = let c = rw q at left.cells_left in let f = rw q at left.flags_left in λ i. (u i, v i, c i, f i)
-      by_answer (Refused r) q cm' cp' u v = let c = rw q at left.cells_left in let f = rw q at left.flags_left in λ i. (u i, v i, c i, f i)
+-- ---- the line of a refusal
 
-      buffers-left : (cm' cp' : List ℕ) → cm' ≡ cond refused (replicate (length cm) 65535) cm → cp' ≡ cond refused (replicate (length cp) 65535) cp
-          → (cm', cp', cells', flags') ≡ report_buffers m p cm₀ cp₀ cells flags
-      unfolding report_buffers
-      buffers-left cm' cp' u v =
-          let n : length cm ≡ length cm₀ = ap length first-cells ∙ sound.first.size in
-          let n' : length cp ≡ length cp₀ = ap length second-cells ∙ sound.second.size in
-          rw given.are (by_answer checked refl cm' cp'
-          (u ∙ rw n (left_by checked refused left.answers.refuses _ cm _ (λ q. first-cells)))
-          (v ∙ rw n' (left_by checked refused left.answers.refuses _ cp _ (λ q. second-cells))))
+-- The report ends within the buffer's bound.
+abbrev pub Reports : (m p : List ℕ) (cm cp cells flags : ℕ) (out : List ℕ) → ℕ → List ℕ → Type 0
+Reports m p cm cp cells flags out e out' = record {
+  value : e ≡ after (length out) 0 (report_text m p cm cp cells flags);
+  out_after : out' ≡ stored out 0 (report_text m p cm cp cells flags);
+  upper_bound : e ≤ 65608;
+}
 
-      pub report_made : (cm' cp' : List ℕ) → cm' ≡ cond refused (replicate (length cm) 65535) cm → cp' ≡ cond refused (replicate (length cp) 65535) cp
-          → Reports m p cm₀ cp₀ cells flags out e out' (cm', cp', cells', flags')
-      report_made cm' cp' u v = reports m p cm₀ cp₀ cells flags out e out' _ text_put (buffers-left cm' cp' u v)
+module _ (m p : List ℕ) (cm cp cells flags : ℕ) (out : List ℕ) where
+  reports : (e : ℕ) (out' : List ℕ) → Prints out 0 (report_text m p cm cp cells flags) e out' → Reports m p cm cp cells flags out e out'
+  reports e out' w = record {
+    value = w.value;
+    out_after = w.out_after;
+    upper_bound = omega (arith, w.value, within (length out) 0 (report_text m p cm cp cells flags), report_short m p cm cp cells flags);
+  }
+
+  abbrev room : ℕ
+  room = room_of cells flags
+
+  -- Either the answer is where the result ends, which was put; or it is a refusal, nothing was put, and the line of it is.
+  abbrev Told : Result ℕ TextRefusal → List ℕ → ℕ → List ℕ → Type 0
+  Told (Ok end) left e out' = (e ≡ end) × (out' ≡ left)
+  Told (Err r) left e out' = Prints left 0 (refusal_text r.text (rule_number r.rule) r.line) e out'
+
+  by_checks : (k : Result (Unit {0}) Refusal) (text : List ℕ) (e : ℕ) (out' : List ℕ)
+      → Told (unless_refused k (λ r. Err (record { rule = r.rule; text = r.table; line = 0 })) (Ok (after (length out) 0 text)))
+      (unless_refused k (λ r. out) (stored out 0 text)) e out'
+      → Prints out 0 (unless_refused k (λ r. refusal_text r.table (rule_number r.rule) 0) text) e out'
+  by_checks (Ok tt) text e out' w = record { value = w.0; out_after = w.1 }
+  by_checks (Err r) text e out' w = w
+
+  pub reported : (answer : Result ℕ TextRefusal) (left : List ℕ) → answer ≡ report_reply m p cm cp cells flags (length out) → left ≡ report_bytes m p cm cp cells flags out
+      → (e : ℕ) (out' : List ℕ) → Told answer left e out' → Reports m p cm cp cells flags out e out'
+  unfolding report_reply report_bytes report_text
+  reported answer left u v e out' w = reports e out' (go (read_both Folded cm m cp p) (rw (u, v) at w))
+    where
+      text : Reading → Reading → List ℕ
+      text x y = result_text (signal_names y.signals) (table_read x) (table_read y)
+
+      go : (j : Joint)
+          → Told (by_reading room (λ file k line. Err (record { rule = k; text = file; line = line })) (λ x y. Ok (after (length out) 0 (text x y))) j)
+          (by_reading room (λ file k line. out) (λ x y. stored out 0 (text x y)) j) e out'
+          → Prints out 0 (by_reading room rule_text text j) e out'
+      go (both x y) w = by_checks (checked_of room x y) (text x y) e out' w
+      go (neither r) w = w

@@ -2,6 +2,8 @@
 use Rattle.std.specs.Prelude.{Bool, cond, List, [], ◌∷◌, ℕ}
 use Rattle.text.specs.declared.Clash.{Clash}
 use Rattle.text.specs.Writing.{decimal, printed}
+use Rattle.theory.specs.declared.Rule.{Rule}
+use Rattle.theory.specs.Rules.{rule_number}
 
 -- ---- words
 
@@ -46,6 +48,10 @@ refused_word = 114 ∷ 101 ∷ 102 ∷ 117 ∷ 115 ∷ 101 ∷ 100 ∷ []
 -- A refusal prints one line: file (1 module, 2 plan, 0 both or the result), number, line.
 unfoldable pub refusal_text : ℕ → ℕ → ℕ → List ℕ
 refusal_text file number line = printed ((refused_word ∷ decimal file ∷ decimal number ∷ decimal line ∷ []) ∷ [])
+
+-- The same, by the rule that is broken.
+abbrev pub rule_text : ℕ → Rule → ℕ → List ℕ
+rule_text file k line = refusal_text file (rule_number k) line
 
 -- A clash prints one line: file and line of the later name, then of the first that it clashes with.
 abbrev pub clash_row : Clash → List (List ℕ)

@@ -7,6 +7,7 @@ use Rattle.text.specs.Writing.{decimal, printed}
 use Rattle.text.specs.Clashes.{clashes_of}
 use Rattle.report.specs.Lines.{refusal_text, clash_row}
 use Rattle.reader.specs.declared.ClashList.{ClashList}
+use Rattle.theory.specs.Rules.{rule_number}
 
 -- A line for each clash, in reading order; of none no byte.
 unfoldable pub clash_lines : List Clash → List ℕ
@@ -15,7 +16,7 @@ clash_lines l = printed (map clash_row l)
 -- By what was read: the clashes among all signals, or the refusal, alone.
 abbrev pub listed : List ℕ → List ℕ → Joint → List ℕ
 listed m p (both x y) = clash_lines (clashes_of m p y.signals)
-listed m p (neither r) = refusal_text r.text r.number r.line
+listed m p (neither r) = refusal_text r.text (rule_number r.rule) r.line
 
 -- All that is printed, where so many cells are lent for the two tables of the archive reading.
 unfoldable pub listing_text : List ℕ → List ℕ → (cm cp : ℕ) → List ℕ

@@ -1,7 +1,7 @@
 -- What the program prints for two texts, and what is left in the buffers that it lends (01, "The program and one full run"). m is the
 -- module's text, p the plan's.
-use Rattle.std.specs.Prelude.{cond, List, [], ◌++◌, ℕ, ◌*◌, ◌/◌, leb, length, replicate}
-use Rattle.theory.specs.declared.Checked.{Checked}
+use Rattle.std.specs.Prelude.{cond, List, [], ◌++◌, ℕ, ◌*◌, ◌/◌, min, length, replicate, Result}
+use Rattle.theory.specs.declared.Refusal.{Refusal}
 use Rattle.theory.specs.Table.{Table, Composition, synthesis, controller, kept_count, step_count, end_count}
 use Rattle.theory.specs.Checks.{Check, first, unless_refused, synthesis_checks}
 use Rattle.text.specs.declared.Spelling.TheVariants.{Folded}
@@ -9,21 +9,19 @@ use Rattle.text.specs.Reading.{Reading, Joint, both, neither, read_both, table_r
 use Rattle.text.specs.Writing.{whole_text, writer_checks}
 use Rattle.emit.specs.Buffer.{stored}
 use Rattle.report.specs.SignalNames.{sequencer_word, signal_names}
-use Rattle.report.specs.Lines.{refusal_text, figures}
+use Rattle.report.specs.Lines.{rule_text, figures}
+use Rattle.theory.specs.declared.Rule.{Rule}
 
 -- ---- two tables
 
-abbrev pub lesser_of : ℕ → ℕ → ℕ
-lesser_of a b = cond (leb a b) a b
-
 -- The maker is given buffers of so many pairs: as many as there are, or as there is room for. More get 10, after 8 and 9.
 abbrev pub lent_pairs : Table → Table → ℕ → ℕ
-lent_pairs a b room = lesser_of (a.header.states * b.header.states) room
+lent_pairs a b room = min (a.header.states * b.header.states) room
 
 -- The room for a result: cells for so many pairs, and a flag for each. More than 1,024 pairs get 10, however much is lent; so every figure has
 -- five digits at most, and `decimal` is its decimal (proofs/Meaning.antt).
 abbrev pub room_of : ℕ → ℕ → ℕ
-room_of cells flags = lesser_of (lesser_of (cells / 32) flags) 1024
+room_of cells flags = min (min (cells / 32) flags) 1024
 
 -- The writer's checks: the text of table `sequencer` is made in 65,536 bytes before anything is printed.
 unfoldable pub text_checks : List (List ℕ) → Table → List Check
@@ -51,21 +49,21 @@ module _ (names : List (List ℕ)) (a b : Table) where
 
 module _ (room : ℕ) where
   -- What comes of the checks after the reading, with room for so many pairs.
-  abbrev pub checked_of : Reading → Reading → Checked
+  abbrev pub checked_of : Reading → Reading → Result (Unit {0}) Refusal
   checked_of x y =
       let a = table_read x in
       let b = table_read y in
       first (report_checks (signal_names y.signals) a b (lent_pairs a b room))
 
-  -- By what was read: of the first refusal, of the reading or after it, the file, the number and the line; else module and plan as read.
-  abbrev pub by_reading : {A : Type 0} → (ℕ → ℕ → ℕ → A) → (Reading → Reading → A) → Joint → A
-  by_reading refused made (both x y) = unless_refused (checked_of x y) (λ r. refused r.table r.number 0) (made x y)
-  by_reading refused made (neither r) = refused r.text r.number r.line
+  -- By what was read: of the first refusal, of the reading or after it, the file, the rule and the line; else module and plan as read.
+  abbrev pub by_reading : {A : Type 0} → (ℕ → Rule → ℕ → A) → (Reading → Reading → A) → Joint → A
+  by_reading refused made (both x y) = unless_refused (checked_of x y) (λ r. refused r.table r.rule 0) (made x y)
+  by_reading refused made (neither r) = refused r.text r.rule r.line
 
 -- All that is printed, where so many cells are lent for module and plan, and so many cells and flags for the result.
 unfoldable pub report_text : List ℕ → List ℕ → (cm cp cells flags : ℕ) → List ℕ
 report_text m p cm cp cells flags =
-    by_reading (room_of cells flags) refusal_text (λ x y. result_text (signal_names y.signals) (table_read x) (table_read y)) (read_both Folded cm m cp p)
+    by_reading (room_of cells flags) rule_text (λ x y. result_text (signal_names y.signals) (table_read x) (table_read y)) (read_both Folded cm m cp p)
 
 -- The four lent buffers: for the cells of module and plan, for the result's cells and flags.
 abbrev pub Buffers : Type 0
@@ -78,4 +76,4 @@ report_buffers m p cm cp cells flags =
     let undone : Buffers = (replicate (length cm) 65535, replicate (length cp) 65535, cells, flags) in
     let result : Reading → Reading → Composition = λ x y. synthesis (table_read x) (table_read y) in
     let done : Reading → Reading → Buffers = λ x y. (x.cells, y.cells, stored cells 0 (result x y).cells, stored flags 0 (result x y).flags) in
-    by_reading (room_of (length cells) (length flags)) (λ file number line. undone) done (read_both Folded (length cm) m (length cp) p)
+    by_reading (room_of (length cells) (length flags)) (λ file k line. undone) done (read_both Folded (length cm) m (length cp) p)

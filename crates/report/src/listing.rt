@@ -15,13 +15,11 @@ fn lines(out: &mut [u8], clashes: ClashList) -> usize
     ensures out_after { out.new ≡ stored out.old 0 (lines_of clashes) }
     ensures upper_bound { result ≤ 768 }
 {
-    let rows = clashes.rows;
     let count = clashes.count;
+    let used = &clashes.rows[0..count];
     let mut at: usize = 0;
-    let mut i: usize = 0;
-    while i < count {
-        at = printout::clash_line(out, at, rows[i]);
-        i += 1;
+    for clash in used {
+        at = printout::clash_line(out, at, *clash);
     }
     at
 }
@@ -35,11 +33,8 @@ pub fn list<'a>(m: &'a [u8], p: &'a [u8], cm: &mut [u16], cp: &mut [u16], out: &
     ensures cp_after { cp.new ≡ cells_second (length cp.old) (read_both Exact (length cm.old) m.now (length cp.old) p.now) }
     ensures upper_bound { result ≤ 768 }
 {
-    let listing = reader::list_clashes(m, p, cm, cp);
-    if listing.refused {
-        let refusal = listing.refusal;
-        return printout::refusal_line(out, 0, refusal.text, refusal.number, refusal.line);
+    match reader::list_clashes(m, p, cm, cp) {
+        Ok(clashes) => lines(out, clashes),
+        Err(r) => printout::refusal_line(out, r),
     }
-    let clashes = listing.clashes;
-    lines(out, clashes)
 }

@@ -1,21 +1,22 @@
 // Puts the lines that the programs print into a lent buffer: of a refusal and of a result (document 01, "The program and one full run"), and of a
 // clash (document 02, S-9). Each call returns the place after what it put.
 ghost use Rattle.std.specs.Prelude.{◌≡◌, ◌+◌, ◌≤◌, length};
+ghost use Rattle.theory.specs.Rules.{rule_number};
 ghost use Rattle.emit.specs.Buffer.{after, stored};
 ghost use Rattle.report.specs.Lines.{refusal_text, clash_text, figures as figures_text, verdict_text, figure_text};
 
-use text::Clash;
+use text::{Clash, TextRefusal};
 
-// Puts the line of a refusal: `refused`, file, number, line.
-pub fn refusal_line(out: &mut [u8], at: usize, file: u32, number: u32, line: usize) -> usize
-    ensures value { result ≡ after (length out.old) at (refusal_text file number line) }
-    ensures out_after { out.new ≡ stored out.old at (refusal_text file number line) }
-    ensures upper_bound { result ≤ at + 26 }
+// Puts the line of a refusal, from the first byte of the buffer on: `refused`, file, number, line.
+pub fn refusal_line(out: &mut [u8], refusal: TextRefusal) -> usize
+    ensures value { result ≡ after (length out.old) 0 (refusal_text refusal.text (rule_number refusal.rule) refusal.line) }
+    ensures out_after { out.new ≡ stored out.old 0 (refusal_text refusal.text (rule_number refusal.rule) refusal.line) }
+    ensures upper_bound { result ≤ 26 }
 {
-    let i = emit::field(out, at, b"refused", 9);
-    let j = emit::number(out, i, file as usize, 9);
-    let k = emit::number(out, j, number as usize, 9);
-    emit::number(out, k, line, 10)
+    let i = emit::field(out, 0, b"refused", b'\t');
+    let j = emit::number(out, i, refusal.text as usize, b'\t');
+    let k = emit::number(out, j, refusal.rule.number() as usize, b'\t');
+    emit::number(out, k, refusal.line, b'\n')
 }
 
 // Puts the line of a clash: file and line of the later name, then of the first one that it clashes with.
@@ -26,10 +27,10 @@ pub fn clash_line(out: &mut [u8], at: usize, clash: Clash) -> usize
 {
     let later = clash.later;
     let first = clash.first;
-    let i = emit::number(out, at, later.text as usize, 9);
-    let j = emit::number(out, i, later.line, 9);
-    let k = emit::number(out, j, first.text as usize, 9);
-    emit::number(out, k, first.line, 10)
+    let i = emit::number(out, at, later.text as usize, b'\t');
+    let j = emit::number(out, i, later.line, b'\t');
+    let k = emit::number(out, j, first.text as usize, b'\t');
+    emit::number(out, k, first.line, b'\n')
 }
 
 // Puts the first of the six lines, from the buffer's first byte on.
@@ -37,11 +38,11 @@ fn verdict(out: &mut [u8], compatible: bool) -> usize
     ensures value { result ≡ after (length out.old) 0 (verdict_text compatible) }
     ensures out_after { out.new ≡ stored out.old 0 (verdict_text compatible) }
 {
-    let i = emit::field(out, 0, b"verdict", 9);
+    let i = emit::field(out, 0, b"verdict", b'\t');
     if compatible {
-        return emit::field(out, i, b"yes", 10);
+        return emit::field(out, i, b"yes", b'\n');
     }
-    emit::field(out, i, b"none", 10)
+    emit::field(out, i, b"none", b'\n')
 }
 
 // Puts a line of a word and a number.
@@ -49,8 +50,8 @@ fn figure(out: &mut [u8], at: usize, word: &[u8], n: usize) -> usize
     ensures value { result ≡ after (length out.old) at (figure_text word.now n) }
     ensures out_after { out.new ≡ stored out.old at (figure_text word.now n) }
 {
-    let i = emit::field(out, at, word, 9);
-    emit::number(out, i, n, 10)
+    let i = emit::field(out, at, word, b'\t');
+    emit::number(out, i, n, b'\n')
 }
 
 // Puts the six lines of a result, from the first byte of the buffer on.

@@ -8,7 +8,7 @@ use native.Mathlib.Decide.{dec_lt}
 use lib.Dec.{T, not_T, nltb→le}
 use lib.ListN.{length}
 use borrow.Author.Tests.{not-false}
-use Rattle.theory.specs.declared.Checked.TheVariants.{Accepted}
+use Rattle.std.specs.Prelude.{Ok}
 use Rattle.theory.specs.Table.{Table, cell_at}
 use Rattle.theory.specs.Checks.{first, declared, table_checks}
 use Rattle.theory.specs.Valid.{Valid}
@@ -39,7 +39,7 @@ pub record Writable (t : Table) (name : List ℕ) (names : List (List ℕ)) : Ty
   pub apart : (c : Spelling) (a b : ℕ) → T (declared t a) → T (declared t b) → matches c (name_of names a) (name_of names b) ≡ true → a ≡ b
   pub short : text_length t name names ≤ 65536
 
-pub writable : (t : Table) (name : List ℕ) (names : List (List ℕ)) (room : ℕ) → first (writer_checks t name names room) ≡ Accepted → Writable t name names
+pub writable : (t : Table) (name : List ℕ) (names : List (List ℕ)) (room : ℕ) → first (writer_checks t name names room) ≡ Ok tt → Writable t name names
 unfolding writer_checks
 writable t name names room e =
     let (c, d) = first_part (table_checks 1 t) _ e in

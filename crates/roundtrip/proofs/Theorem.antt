@@ -7,7 +7,7 @@ use Prim.Native.Nat.{ℕ, ◌*◌, ◌≤◌, ◌<◌}
 use native.Mathlib.Omega.{arith}
 use lib.Dec.{T}
 use lib.ListN.{length, get_or, length-map, get_or-map, take}
-use Rattle.theory.specs.declared.Checked.TheVariants.{Accepted}
+use Rattle.std.specs.Prelude.{Ok}
 use Rattle.theory.specs.Table.{Table}
 use Rattle.theory.specs.Checks.{first, declared}
 use Rattle.theory.specs.Valid.{Valid}
@@ -81,13 +81,13 @@ module _ (t : Table) (name : List ℕ) (names : List (List ℕ)) (w : Writable t
         }
 
 -- All that the writer takes is read back, in any spelling: by the reading and by the archive reading.
-pub round_trip : (c : Spelling) (t : Table) (name : List ℕ) (names : List (List ℕ)) (room : ℕ) → first (writer_checks t name names room) ≡ Accepted
+pub round_trip : (c : Spelling) (t : Table) (name : List ℕ) (names : List (List ℕ)) (room : ℕ) → first (writer_checks t name names room) ≡ Ok tt
     → (cells : ℕ) → t.header.states * 32 ≤ cells → RoundTrip c t names cells (whole_text t name names)
 round_trip c t name names room e cells fits = trip t name names (writable t name names room e) c cells fits
 
 -- What the writer leaves in the lent bytes, by its contract, is read back.
 pub written-trip : (c : Spelling) (t : Table) (name : List ℕ) (names : List (List ℕ)) (bytes : List ℕ)
-    → first (writer_checks t name names (length bytes)) ≡ Accepted → (cells : ℕ) → t.header.states * 32 ≤ cells
+    → first (writer_checks t name names (length bytes)) ≡ Ok tt → (cells : ℕ) → t.header.states * 32 ≤ cells
     → RoundTrip c t names cells (take (text_length t name names) (writer_bytes t name names bytes))
 written-trip c t name names bytes e cells fits = rw (written-text t name names bytes e _ refl) (round_trip c t name names (length bytes) e cells fits)
 
@@ -207,7 +207,7 @@ exact_no_clash m names p names' a b h k e = same-eq (name_of names a) (name_of n
 
 module _ (m : Table) (name : List ℕ) (names : List (List ℕ)) (p : Table) (name' : List ℕ) (names' : List (List ℕ))
     (few : length (all_names m names p names') ≤ 32) (cells cells' : ℕ) (fits : m.header.states * 32 ≤ cells) (fits' : p.header.states * 32 ≤ cells') where
-  module _ (room room' : ℕ) (e : first (writer_checks m name names room) ≡ Accepted) (e' : first (writer_checks p name' names' room') ≡ Accepted) where
+  module _ (room room' : ℕ) (e : first (writer_checks m name names room) ≡ Ok tt) (e' : first (writer_checks p name' names' room') ≡ Ok tt) where
     -- What the writer takes of a component and of a specification, with at most 32 different names in all, is read back together if no name of one clashes with a name of
     -- the other.
     pub joint-trip : (c : Spelling) → NoClashBetween c m names p names' → JointTrip c m names p names' cells cells' (whole_text m name names) (whole_text p name' names')
@@ -219,8 +219,8 @@ module _ (m : Table) (name : List ℕ) (names : List (List ℕ)) (p : Table) (na
     archive_joint_trip = joint-trip Exact (exact_no_clash m names p names')
 
   -- What the writer leaves in the lent bytes, by its contract, is read back.
-  module _ (bytes bytes' : List ℕ) (e : first (writer_checks m name names (length bytes)) ≡ Accepted)
-      (e' : first (writer_checks p name' names' (length bytes')) ≡ Accepted) where
+  module _ (bytes bytes' : List ℕ) (e : first (writer_checks m name names (length bytes)) ≡ Ok tt)
+      (e' : first (writer_checks p name' names' (length bytes')) ≡ Ok tt) where
     abbrev written : List ℕ
     written = take (text_length m name names) (writer_bytes m name names bytes)
 

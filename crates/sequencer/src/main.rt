@@ -6,7 +6,8 @@ ghost use Rattle.std.specs.Prelude.{◌≡◌, length};
 
 use std::rt::Files;
 
-// Prints the report; if that fails, says so on standard error. The exit status is 0 then too, as of every report.
+// Prints the report; if that fails, says so on standard error. The exit status is 0 then too, as of every report. The lister of clashes has a like
+// function: no contract can say what is printed, so one that both call would promise nothing.
 fn print(rt: &(impl Print + Eprint), report: &[u8]) {
     if let Err(e) = rt.write_all(report) {
         let _ = eprintln!(rt; "sequencer: the report could not be written: {e}");

@@ -1,3 +1,3 @@
-pub mod Members
+pub mod Membership
 pub mod SetOf
 pub mod Visit

@@ -11,11 +11,14 @@ use lib.Count.{count_trailing_zeros, under}
 use lib.Dec.{T, eqb, eqb→eq, eqb_refl, T_not, eqb-suc-suc, eqb-suc-zero}
 use lib.Pow.{pow_pos}
 use borrow.Author.Tests.{ne_eqb}
+use Rattle.std.specs.Prelude.{Some}
 use Rattle.theory.specs.Sets.{has, difference}
 use Rattle.theory.proofs.Lowest.{Lowest}
 use Rattle.theory.proofs.Sets.{has-suc, has-difference}
 use Rattle.theory.proofs.Tests.{or_cases, or_left, or_right, and_left, and_right}
-use Rattle.sets.proofs.Members.{has-zero, has-none}
+use Rattle.sets.specs.declared.LowestFirst.{LowestFirst}
+use Rattle.sets.specs.Steps.{iterator_over, set_left, member_steps}
+use Rattle.sets.proofs.Membership.{has-zero, has-none}
 
 -- ---- the lowest member
 
@@ -190,3 +193,18 @@ module _ {set left : ℕ} {known : ℕ → Type 0} (v : Visit set left known) (s
       ];
       done = f (difference set left) (difference set left') visit_turn v.done;
     }
+
+-- ---- the same of a loop over an iterator, whose step is that from s to t by the member a
+
+pub visit_members : {known : ℕ → Type 0} (set : ℕ) {s t : LowestFirst} → t ≡ s → s ≡ iterator_over set → set < 2 ^ 32 → known 0 → Visit set (set_left t) known
+visit_members {known} set u e h k = subst (λ x. Visit set x known) (sym (ap set_left (u ∙ e))) (visit_start set h k)
+
+module _ {set : ℕ} {s t : LowestFirst} {a : ℕ} {known : ℕ → Type 0} (v : Visit set (set_left s) known) (step : member_steps s (Some a) t) where
+  pub next_below : a < 32
+  next_below = visit_below v (λ e. omega (arith, step.0)) a step.1
+
+  pub next_member : T (has set a)
+  next_member = visit_member v (λ e. omega (arith, step.0)) a step.1
+
+  pub visit_next : {known' : ℕ → Type 0} → ((visited visited' : ℕ) → Turn set visited a visited' (set_left t) → known visited → known' visited') → Visit set (set_left t) known'
+  visit_next = visit_step v (λ e. omega (arith, step.0)) a step.1 (set_left t) step.2

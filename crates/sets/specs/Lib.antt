@@ -1,1 +1,2 @@
 pub mod SetOf
+pub mod Steps

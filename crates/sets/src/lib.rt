@@ -7,6 +7,8 @@ ghost use Rattle.std.specs.Int.Count.{count_leading_zeros, count_trailing_zeros}
 ghost use Rattle.theory.specs.Bounded.{any, count};
 ghost use Rattle.theory.specs.Sets.{has, difference as without};
 ghost use Rattle.theory.specs.Table.{member};
+ghost use Rattle.std.specs.Iterator.{at_most};
+ghost use Rattle.sets.specs.Steps.{iterator_over, set_left, member_steps};
 
 // Counts the members.
 pub fn size(s: u32) -> u32
@@ -78,4 +80,34 @@ pub fn is_subset(s: u32, t: u32) -> bool
     ensures { result ≡ not (any 32 (λ (a : ℕ). member s a && not (member t a))) }
 {
     s & t == s
+}
+
+// The members of a set that are still to come, lowest first.
+#[derive(Drop)]
+pub struct LowestFirst {
+    left: u32,
+}
+
+// Gives the members, lowest first.
+pub fn members(s: u32) -> LowestFirst
+    ensures { result ≡ iterator_over s }
+{
+    LowestFirst { left: s }
+}
+
+impl Iterator for LowestFirst {
+    type Item = usize;
+
+    ghost next_gives = { member_steps };
+
+    ghost remaining = { λ s. at_most (set_left s) };
+
+    fn next(&mut self) -> Option<usize> {
+        if self.left == 0 {
+            return None;
+        }
+        let action = lowest(self.left) as usize;
+        self.left = rest(self.left);
+        Some(action)
+    }
 }

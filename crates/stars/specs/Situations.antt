@@ -3,6 +3,7 @@ use Rattle.std.specs.Prelude.{Bool, true, false, ◌&&◌, cond, List, [], ◌�
 use Rattle.std.proofs.Math.Option.{Option, none, some}
 use Rattle.theory.specs.declared.Refusal.{Refusal}
 use Rattle.theory.specs.Bounded.{tabulate}
+use Rattle.theory.specs.Rules.{rule_number}
 use Rattle.theory.specs.Table.{header, Table, table, Composition, automaton, composition, synthesis, controller, refinement, kept_count, step_count, end_count}
 use Rattle.theory.specs.Checks.{first, unless_refused, compatibility_checks, composition_checks, synthesis_checks, refinement_checks}
 
@@ -58,7 +59,7 @@ pub data Outcome : Type 0 where
   refines : Bool → Outcome
 
 abbrev pub turned : Refusal → Outcome
-turned r = refused r.number r.table
+turned r = refused (rule_number r.rule) r.table
 
 -- The figures of a composition, whose table is t.
 abbrev pub figures : Composition → Table → Figures

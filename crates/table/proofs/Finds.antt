@@ -4,8 +4,9 @@ use native.Mathlib.Decide.{ℕ_discrete}
 use Rattle.theory.specs.Bounded.{any}
 use Rattle.theory.proofs.Lowest.{lowest-any}
 use Rattle.table.specs.declared.faults.Walked.{Walked}
-use Rattle.table.specs.declared.faults.Finding.TheVariants.{Fault, Nothing}
-use Rattle.table.specs.Faults.{fault_at, in_rows, SoundBefore, Ended, first_fault}
+use Rattle.std.specs.Prelude.{None}
+use Rattle.theory.specs.declared.Rule.TheVariants as rule
+use Rattle.table.specs.Faults.{found, rule_of, fault_at, in_rows, SoundBefore, Ended, first_fault}
 
 -- No cell is at fault by a check before this one.
 pub record PassedBefore (n acts : ℕ) (cells : List ℕ) (check : ℕ) : Type 0 where
@@ -45,17 +46,16 @@ module _ (n acts : ℕ) (cells : List ℕ) where
       }
     ]
 
-    pub find-fault : w.at < in_rows cells → Fault check w.at ≡ first_fault n acts cells
+    pub find-fault : w.at < in_rows cells → found (rule_of (eqb check 6)) w.at ≡ first_fault n acts cells
     unfolding first_fault
     find-fault h = elim (ℕ_discrete check 6) [
       | yes q ↦
-          rw (passed.five (omega arith), at-fault true (ended-six q) ∙ lt-ltb w.at (in_rows cells) h, q)
-          (ap (Fault 6) (ended-six q).first)
+          rw (passed.five (omega arith), at-fault true (ended-six q) ∙ lt-ltb w.at (in_rows cells) h, eq-eqb check 6 q)
+          (ap (found rule.UndeclaredStep) (ended-six q).first)
       | no d ↦
-          let e : check ≡ 5 = omega arith in
-          rw (at-fault false (ended-five d) ∙ lt-ltb w.at (in_rows cells) h, e) (ap (Fault 5) (ended-five d).first)
+          rw (at-fault false (ended-five d) ∙ lt-ltb w.at (in_rows cells) h, ne_eqb check 6 d) (ap (found rule.StrayCell) (ended-five d).first)
     ]
 
-  pub find-nothing : (check : ℕ) → 7 ≤ check → PassedBefore n acts cells check → Nothing ≡ first_fault n acts cells
+  pub find-nothing : (check : ℕ) → 7 ≤ check → PassedBefore n acts cells check → None ≡ first_fault n acts cells
   unfolding first_fault
   find-nothing check h passed = rw (passed.five (omega arith), passed.six (omega arith))

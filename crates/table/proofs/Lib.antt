@@ -7,7 +7,6 @@ pub mod Words
 pub mod Overlaps
 pub mod CheckLists
 pub mod TableChecks
-pub mod Replies
 pub mod Meaning
 pub mod PairChecks
 pub mod ReadySizes

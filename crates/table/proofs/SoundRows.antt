@@ -1,8 +1,8 @@
 -- Rows without fault, told at once: the limits of the actions, and the test of a row.
-use Rattle.std.proofs.Common.{◌≡◌, ℕ, ◌+◌, ◌-◌, ◌*◌, ◌/◌, ◌%◌, ◌^◌, ◌<◌, min, Bool, true, false, cond, not, ◌&&◌, ◌||◌, ltb, leb, List, length, get_or, sym, refl, ◌∙◌, ap₂, add-one, arith, le-ltb, lt-ltb, eq-eqb, ne_eqb, le-leb, leb-false}
+use Rattle.std.proofs.Common.{◌≡◌, ℕ, ◌+◌, ◌-◌, ◌*◌, ◌/◌, ◌^◌, ◌<◌, min, Bool, true, false, cond, not, ◌&&◌, ◌||◌, ltb, leb, List, length, get_or, sym, refl, ◌∙◌, ap₂, add-one, arith, le-ltb, lt-ltb, eq-eqb, ne_eqb, leb-false}
 use native.Mathlib.Decide.{ℕ_discrete, dec_lt}
 use lib.Arith.{digits_mod}
-use borrow.Author.Tests.{lt-leb, not-true, not-false}
+use borrow.Author.Tests.{not-true}
 use Rattle.theory.specs.Bounded.{any, tabulate}
 use Rattle.theory.specs.Table.{member}
 use Rattle.theory.specs.Checks.{stray}
@@ -12,30 +12,10 @@ use Rattle.theory.proofs.Lowest.{none-at, none_below}
 use Rattle.table.specs.Faults.{fault, fault_at, limit, stray_in, SoundBefore}
 use Rattle.table.proofs.FaultyRows.{within, sound-same}
 
--- ---- limit
-
-module _ (n acts a : ℕ) (r : Bool) (known : r ≡ member acts a) where
-  pub limit-none : not r ≡ true → 0 ≡ limit n acts a
-  limit-none h = rw (← known, not-true r h)
-
-  pub limit-states : not r ≡ false → n ≡ limit n acts a
-  limit-states h = rw (← known, not-false r h)
+-- ---- limits
 
 pub limits_many : (n acts : ℕ) (below : List ℕ) → below ≡ tabulate (limit n acts) 0 32 → length below ≡ 32
 limits_many n acts below e = rw e (length-tabulate (limit n acts) 0 32)
-
--- ---- stray
-
-pub stray_wrapped : (cell limit x : ℕ) → cell < 2 ^ 16 → x ≡ (cell + 1) % 2 ^ 16 → ltb limit x ≡ stray limit cell
-stray_wrapped cell limit x small e = elim (ℕ_discrete cell 65535) [
-  | yes q ↦ rw (eq-eqb cell 65535 q) (le-ltb limit x (let z : x ≡ 0 = omega arith in omega arith))
-  | no d ↦
-      let z : x ≡ cell + 1 = omega arith in
-      rw (ne_eqb cell 65535 d) (elim (dec_lt cell limit) [
-        | yes l ↦ le-ltb limit x (omega arith) ∙ sym (lt-leb limit cell l)
-        | no g ↦ lt-ltb limit x (omega arith) ∙ sym (le-leb limit cell (omega arith))
-      ])
-]
 
 -- ---- is_row_faulty
 

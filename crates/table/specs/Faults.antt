@@ -1,11 +1,12 @@
 -- Cells at fault, and the first of them.
-use Rattle.std.specs.Prelude.{◌≡◌, ℕ, ◌+◌, ◌*◌, ◌/◌, ◌%◌, ◌≤◌, Bool, true, false, cond, not, ◌&&◌, List, length, nat_lt, slice_index, slice_index_or}
+use Rattle.std.specs.Prelude.{◌≡◌, ℕ, ◌+◌, ◌*◌, ◌/◌, ◌%◌, ◌≤◌, Bool, true, false, cond, not, ◌&&◌, List, length, nat_lt, slice_index, slice_index_or, Option, Some, None}
 use Rattle.theory.specs.Bounded.{any, lowest}
 use Rattle.theory.specs.Table.{member}
 use Rattle.theory.specs.Checks.{stray}
 use Rattle.table.specs.declared.faults.Walked.{Walked}
 use Rattle.table.specs.declared.faults.Finding.{Finding}
-use Rattle.table.specs.declared.faults.Finding.TheVariants.{Fault, Nothing}
+use Rattle.theory.specs.declared.Rule.{Rule}
+use Rattle.theory.specs.declared.Rule.TheVariants as rule
 
 -- A cell of n states is at fault by check 5 (false) or by check 6 (true); acts has the declared actions.
 abbrev pub fault : Bool → ℕ → ℕ → ℕ → ℕ → Bool
@@ -20,11 +21,20 @@ fault_at six n acts cells k = fault six n acts (slice_index_or cells k 65535) (k
 abbrev pub in_rows : List ℕ → ℕ
 in_rows cells = length cells / 32 * 32
 
+-- The rule of check 5 or 6, and the cell at fault by it.
+abbrev pub found : Rule → ℕ → Option Finding
+found k cell = Some (record { rule = k; cell = cell })
+
+-- The rule of check 5 (false) and that of check 6 (true).
+abbrev pub rule_of : Bool → Rule
+rule_of false = rule.StrayCell
+rule_of true = rule.UndeclaredStep
+
 -- What the two walks find: the first cell at fault by check 5; where there is none, the first by check 6.
-unfoldable pub first_fault : ℕ → ℕ → List ℕ → Finding
+unfoldable pub first_fault : ℕ → ℕ → List ℕ → Option Finding
 first_fault n acts cells =
-    cond (any (in_rows cells) (fault_at false n acts cells)) (Fault 5 (lowest (in_rows cells) (fault_at false n acts cells)))
-    (cond (any (in_rows cells) (fault_at true n acts cells)) (Fault 6 (lowest (in_rows cells) (fault_at true n acts cells))) Nothing)
+    cond (any (in_rows cells) (fault_at false n acts cells)) (found rule.StrayCell (lowest (in_rows cells) (fault_at false n acts cells)))
+    (cond (any (in_rows cells) (fault_at true n acts cells)) (found rule.UndeclaredStep (lowest (in_rows cells) (fault_at true n acts cells))) None)
 
 -- ---- within the walks
 

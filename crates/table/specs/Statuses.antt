@@ -1,20 +1,20 @@
 -- A refusal in numbers, its location too (02, S-2).
-use Rattle.std.specs.Prelude.{ℕ, true, false}
-use Rattle.theory.specs.declared.Location.{Location}
-use Rattle.theory.specs.declared.Location.TheVariants.{Cell, Nowhere}
+use Rattle.std.specs.Prelude.{ℕ, true, false, None, Some}
 use Rattle.theory.specs.declared.Refusal.{Refusal}
+use Rattle.theory.specs.Checks.{Place}
+use Rattle.theory.specs.Rules.{rule_number}
 use Rattle.table.specs.declared.Status.{Status}
 
 -- No cell is named: its numbers are 0.
 abbrev pub status_nowhere : ℕ → ℕ → Status
 status_nowhere n i = record { number = n; table = i; placed = false; state = 0; action = 0 }
 
-abbrev pub status_at : ℕ → ℕ → Location → Status
-status_at n i (Cell s a) = record { number = n; table = i; placed = true; state = s; action = a }
-status_at n i Nowhere = status_nowhere n i
+abbrev pub status_at : ℕ → ℕ → Place → Status
+status_at n i (Some c) = record { number = n; table = i; placed = true; state = c.state; action = c.action }
+status_at n i None = status_nowhere n i
 
 abbrev pub status_of : Refusal → Status
-status_of r = status_at r.number r.table r.location
+status_of r = status_at (rule_number r.rule) r.table r.location
 
 -- Nothing is refused.
 abbrev pub accepted_status : Status

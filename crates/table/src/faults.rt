@@ -2,17 +2,20 @@
 ghost use Rattle.std.specs.Prelude.{◌≡◌, ◌/◌, ◌<◌, min, length};
 ghost use Rattle.theory.specs.Bounded.{any, tabulate};
 ghost use Rattle.theory.specs.Checks.{stray as strayOf};
-ghost use Rattle.table.specs.Faults.{fault as faultOf, limit as limitOf, stray_in, SoundBefore, Ended, first_fault};
+ghost use Rattle.table.specs.Faults.{fault as faultOf, limit as limitOf, stray_in, SoundBefore, Ended, rule_of, first_fault};
 
-// Result of `find`: the check that applies, 5 or 6, and the index of the first cell at fault by it; or nothing.
+use theory::Rule;
+
+// What `find` finds: the rule that is broken, that of check 5 or 6, and the index of the first cell at fault by it.
 #[derive(Clone, Copy)]
-pub enum Finding {
-    Fault { check: u32, cell: usize },
-    Nothing,
+pub struct Finding {
+    pub rule: Rule,
+    pub cell: usize,
 }
 
 // Where a walk ends: `at` is the index of the first cell at fault, or the number of cells. No cell before `row` is at fault by either check: it is the first
-// row that was not passed over, or the number of rows, and the next walk begins there.
+// row that was not passed over, or the number of rows, and the next walk begins there. `at` is no `Option`: with one, and a call of `walk` for each check in
+// place of the loop over the two, judging 64 states takes 197 ns for 172, and 4 states 40 ns for 33.
 #[derive(Clone, Copy)]
 struct Walked {
     at: usize,
@@ -23,7 +26,7 @@ struct Walked {
 fn stray(cell: u16, limit: u16) -> bool
     ensures { result ≡ strayOf limit cell }
 {
-    limit < std::num::wrapping_add_u16(cell, 1)
+    limit < cell.wrapping_add(1)
 }
 
 // Tells whether a cell is at fault: by check 5, or by check 6 if `six`. `acts` has the declared actions. Check 5 does not call `stray`: sharing a sum with
@@ -32,25 +35,21 @@ fn fault(six: bool, cell: u16, states: u16, acts: u32, action: usize) -> bool
     ensures { result ≡ faultOf six states acts cell action }
 {
     if six {
-        if states <= cell {
-            return false;
-        }
-        return !sets::contains(acts, action);
+        cell < states && !sets::contains(acts, action)
+    } else {
+        cell != 65535 && states <= cell
     }
-    if cell == 65535 {
-        return false;
-    }
-    states <= cell
 }
 
 // Exclusive upper bound of a step by the action: the number of states, or 0 where the action is not declared.
 fn limit(states: u16, acts: u32, action: usize) -> u16
     ensures { result ≡ limitOf states acts action }
 {
-    if !sets::contains(acts, action) {
-        return 0;
+    if sets::contains(acts, action) {
+        states
+    } else {
+        0
     }
-    states
 }
 
 // The limits of all actions.
@@ -77,16 +76,6 @@ fn is_row_faulty(cells: &[u16], row: usize, below: &[u16]) -> bool
     faulty
 }
 
-// The earlier of two rows.
-fn earlier(row: usize, noted: usize) -> usize
-    ensures { result ≡ min row noted }
-{
-    if row < noted {
-        return row;
-    }
-    noted
-}
-
 // Walks the whole rows of 32 cells to the first cell at fault. It begins at a row before which none is, passes over a row that is sound as a whole by one
 // test, and looks at the cells of any other row one by one.
 fn walk(six: bool, cells: &[u16], states: u16, acts: u32, below: &[u16], start: usize) -> Walked
@@ -101,7 +90,7 @@ fn walk(six: bool, cells: &[u16], states: u16, acts: u32, below: &[u16], start: 
         if !is_row_faulty(cells, row, below) {
             continue;
         }
-        noted = earlier(row, noted);
+        noted = noted.min(row);
         for action in 0..32usize {
             let k = row * 32 + action;
             if fault(six, cells[k], states, acts, action) {
@@ -113,9 +102,20 @@ fn walk(six: bool, cells: &[u16], states: u16, acts: u32, below: &[u16], start: 
     Walked { at, row: noted }
 }
 
+// The rule of check 6 if `six`, else that of check 5.
+fn rule_of(six: bool) -> Rule
+    ensures { result ≡ rule_of six }
+{
+    if six {
+        Rule::UndeclaredStep
+    } else {
+        Rule::StrayCell
+    }
+}
+
 // Finds the first cell at fault by check 5, or else the first by check 6, among whole rows of 32 cells; `acts` has the declared actions. A
 // sound table takes one pass: the walk for check 5 notes the first row at fault by either check, and check 6 begins there.
-pub fn find(cells: &[u16], states: u16, acts: u32) -> Finding
+pub fn find(cells: &[u16], states: u16, acts: u32) -> Option<Finding>
     ensures { result ≡ first_fault states acts cells.now }
 {
     let below = limits(states, acts);
@@ -124,12 +124,12 @@ pub fn find(cells: &[u16], states: u16, acts: u32) -> Finding
     for check in 5..7u32 {
         let walked = walk(check == 6, cells, states, acts, &below, start);
         if walked.at < rows * 32 {
-            return Finding::Fault {
-                check,
+            return Some(Finding {
+                rule: rule_of(check == 6),
                 cell: walked.at,
-            };
+            });
         }
         start = walked.row;
     }
-    Finding::Nothing
+    None
 }

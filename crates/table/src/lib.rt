@@ -7,7 +7,7 @@ ghost use Rattle.theory.specs.Table.{table};
 ghost use Rattle.theory.specs.Checks.{first, table_checks};
 ghost use Rattle.table.specs.Contract.{mirror_reply};
 
-use theory::{Automaton, Checked, Refusal};
+use theory::{Automaton, Refusal};
 
 mod checks;
 mod counts;
@@ -21,23 +21,8 @@ pub use checks::{check_composable, check_each, check_refinement};
 pub use counts::{count_kept, count_singly, count_steps};
 pub use headers::{declared, exchange, header, sent};
 pub use monitor::{advance, check_position, follow};
-pub use refusals::{accepted, refusal, refuse, status_nowhere, status_of};
+pub use refusals::{accepted, refusal, status_nowhere};
 pub use sizes::is_ready;
-
-// Reply of `mirror`: the header of the mirror, whose cells are those of the automaton; or a refusal.
-#[derive(Clone, Copy)]
-pub enum Mirrored {
-    Mirror(Automaton),
-    Refused(Refusal),
-}
-
-// Reply of the monitor: the state it moved to, "not now", or a refusal.
-#[derive(Clone, Copy)]
-pub enum Followed {
-    Moved(usize),
-    NotNow,
-    Refused(Refusal),
-}
 
 // Lengths of the result buffers of a call on two tables: cells, 32 for each state pair; bytes, one for each; or both.
 #[derive(Clone, Copy)]
@@ -59,29 +44,25 @@ pub struct Status {
 }
 
 // Judges one automaton by checks 1 to 6; a refusal names table 1.
-pub fn judge(a: Automaton, cells: &[u16]) -> Checked
+pub fn judge(a: Automaton, cells: &[u16]) -> Result<(), Refusal>
     ensures { result ≡ first (table_checks 1 (table a cells.now)) }
 {
     checks::check(a, cells, 1)
 }
 
-// Mirrors an automaton: exchanges inputs and outputs if checks 1 to 6 pass.
-pub fn mirror(a: Automaton, cells: &[u16]) -> Mirrored
+// Mirrors an automaton: exchanges inputs and outputs if checks 1 to 6 pass. The mirror has the cells of the automaton.
+pub fn mirror(a: Automaton, cells: &[u16]) -> Result<Automaton, Refusal>
     ensures { result ≡ mirror_reply (table a cells.now) }
 {
-    match checks::check(a, cells, 1) {
-        Checked::Refused(r) => Mirrored::Refused(r),
-        Checked::Accepted => Mirrored::Mirror(headers::exchange(a)),
-    }
+    judge(a, cells)?;
+    Ok(headers::exchange(a))
 }
 
 // Removes every step: sets all cells to 65,535.
 pub fn clear(cells: &mut [u16])
     ensures { cells.new ≡ replicate (length cells.old) 65535 }
 {
-    for i in 0..cells.len() {
-        cells[i] = 65535;
-    }
+    cells.fill(65535);
 }
 
 // Removes every step if what the cells were for is refused; else leaves them as they are.

@@ -5,46 +5,57 @@ ghost use Rattle.theory.specs.Checks.{first, place_checks};
 ghost use Rattle.table.specs.Cells.{stepless};
 ghost use Rattle.table.specs.Contract.{own_reply, follow_reply};
 
-use crate::{Followed, checks, headers, refusals};
-use theory::{Automaton, Checked, Location};
+use crate::{checks, headers, refusals};
+use theory::{Automaton, Location, Refusal, Rule};
 
 // Runs the checks of the monitor that read no cell: 1 to 4, 11, 12; `cells` is the number of cells.
-pub fn check_position(a: Automaton, cells: usize, state: usize, action: usize) -> Checked
+pub fn check_position(
+    a: Automaton,
+    cells: usize,
+    state: usize,
+    action: usize,
+) -> Result<(), Refusal>
     ensures { result ≡ first (place_checks 1 (stepless a cells) state action) }
 {
-    let shape = checks::check_shape(a, cells, 1);
-    let Checked::Accepted = shape else {
-        return shape;
-    };
+    checks::check_shape(a, cells, 1)?;
     if a.states <= state {
-        return refusals::refuse(11, 1);
+        return Err(refusals::refusal(Rule::NoState, 1));
     }
     if !sets::contains(headers::declared(a), action) {
-        return refusals::refuse(12, 1);
+        return Err(refusals::refusal(Rule::NoAction, 1));
     }
-    Checked::Accepted
+    Ok(())
 }
 
-// Turns the cell of a state and an action into the reply of the monitor: a move, "not now" for no step, or refusal 5, which names this cell.
-pub fn advance(cell: u16, states: usize, state: usize, action: usize) -> Followed
+// Turns the cell of a state and an action into the reply of the monitor: the state that it moves to, `None` ("not now") for no step, or refusal 5,
+// which names this cell.
+pub fn advance(
+    cell: u16,
+    states: usize,
+    state: usize,
+    action: usize,
+) -> Result<Option<usize>, Refusal>
     ensures { result ≡ own_reply states state action cell }
 {
     let next = cell as usize;
     if next < states {
-        return Followed::Moved(next);
+        return Ok(Some(next));
     }
     if next == 65535 {
-        return Followed::NotNow;
+        return Ok(None);
     }
-    Followed::Refused(refusals::refusal_at(5, 1, Location::Cell { state, action }))
+    Err(refusals::at(Rule::StrayCell, 1, Some(Location { state, action })))
 }
 
 // Makes one step of the monitor: runs checks 1 to 4, 11 and 12, then 5 on the one cell of the state and the action.
-pub fn follow(a: Automaton, cells: &[u16], state: usize, action: usize) -> Followed
+pub fn follow(
+    a: Automaton,
+    cells: &[u16],
+    state: usize,
+    action: usize,
+) -> Result<Option<usize>, Refusal>
     ensures { result ≡ follow_reply (table a cells.now) state action }
 {
-    match check_position(a, cells.len(), state, action) {
-        Checked::Refused(r) => Followed::Refused(r),
-        Checked::Accepted => advance(cells[state * 32 + action], a.states, state, action),
-    }
+    check_position(a, cells.len(), state, action)?;
+    advance(cells[state * 32 + action], a.states, state, action)
 }

@@ -1,53 +1,45 @@
 // Refusals: every refusal of a call on tables is made here, and turned into plain numbers for C.
-ghost use Rattle.std.specs.Prelude.{◌≡◌};
-ghost use Rattle.theory.specs.declared.Location.TheVariants.{Cell, Nowhere};
-ghost use Rattle.theory.specs.Checks.{refusal as refusal_of, refuse as refused, refuse_at as refusedAt, cell_of};
+ghost use Rattle.std.specs.Prelude.{◌≡◌, None};
+ghost use Rattle.theory.specs.Checks.{refusal as refusal_of, at_cell, cell_of};
 ghost use Rattle.table.specs.Statuses.{status_nowhere, status_of, accepted_status};
 
 use crate::Status;
-use theory::{Checked, Location, Refusal};
+use theory::{Location, Refusal, Rule};
 
 // Makes a refusal with its location. Every refusal of a call on tables is made here.
-pub fn refusal_at(number: u32, table: u32, location: Location) -> Refusal
-    ensures { result ≡ refusal_of number table location }
+pub fn at(rule: Rule, table: u32, location: Option<Location>) -> Refusal
+    ensures { result ≡ refusal_of rule table location }
 {
     Refusal {
-        number,
+        rule,
         table,
         location,
     }
 }
 
-// Makes a refusal that names no cell: those with a number from 7 on (document 02, S-2).
-pub fn refusal(number: u32, table: u32) -> Refusal
-    ensures { result ≡ refusal_of number table Nowhere }
+// Makes a refusal that names no cell: by a rule whose number is from 7 on (document 02, S-2).
+pub fn refusal(rule: Rule, table: u32) -> Refusal
+    ensures { result ≡ refusal_of rule table None }
 {
-    refusal_at(number, table, Location::Nowhere)
+    at(rule, table, None)
 }
 
-// Refuses a call by a number from 7 on, so without a cell.
-pub fn refuse(number: u32, table: u32) -> Checked
-    ensures { result ≡ refused number table }
+// Makes a refusal by a rule whose number is from 1 to 6, which names the cell with this index.
+pub fn of_cell(rule: Rule, table: u32, cell: usize) -> Refusal
+    ensures { result ≡ refusal_of rule table (cell_of cell) }
 {
-    Checked::Refused(refusal(number, table))
-}
-
-// Refuses a call by a number from 1 to 6, and names the cell with this index.
-pub fn refuse_cell(number: u32, table: u32, cell: usize) -> Checked
-    ensures { result ≡ refusedAt number table (cell_of cell) }
-{
-    let location = Location::Cell {
+    let location = Location {
         state: cell / 32,
         action: cell % 32,
     };
-    Checked::Refused(refusal_at(number, table, location))
+    at(rule, table, Some(location))
 }
 
-// Refuses a call by a number from 1 to 4: they are of no cell in particular, and name state 0 and action 0 (document 02, S-2).
-pub fn refuse_table(number: u32, table: u32) -> Checked
-    ensures { result ≡ refusedAt number table (Cell 0 0) }
+// Makes a refusal by a rule whose number is from 1 to 4: they are of no cell in particular, and name state 0 and action 0 (document 02, S-2).
+pub fn of_table(rule: Rule, table: u32) -> Refusal
+    ensures { result ≡ refusal_of rule table (at_cell 0 0) }
 {
-    refuse_cell(number, table, 0)
+    of_cell(rule, table, 0)
 }
 
 // Turns a refusal that names no cell into a status.
@@ -70,19 +62,19 @@ pub fn accepted() -> Status
     status_nowhere(0, 0)
 }
 
-// Turns a refusal into a status.
-pub fn status_of(why: Refusal) -> Status
-    ensures { result ≡ status_of why }
-{
-    let location = why.location;
-    match location {
-        Location::Cell { state, action } => Status {
-            number: why.number,
-            table: why.table,
-            placed: true,
-            state,
-            action,
-        },
-        Location::Nowhere => status_nowhere(why.number, why.table),
+impl From<Refusal> for Status {
+    ghost from_gives = { λ r s. s ≡ status_of r };
+
+    fn from(why: Refusal) -> Status {
+        match why.location {
+            Some(Location { state, action }) => Status {
+                number: why.rule.number(),
+                table: why.table,
+                placed: true,
+                state,
+                action,
+            },
+            None => status_nowhere(why.rule.number(), why.table),
+        }
     }
 }

@@ -10,32 +10,12 @@ use theory::Automaton;
 pub fn is_ready(a: Automaton, ca: &[u16], b: Automaton, cb: &[u16], pairs: usize) -> bool
     ensures { result ≡ ready (table a ca.now) (table b cb.now) pairs }
 {
-    let states_a = a.states;
-    let states_b = b.states;
-    if states_a <= a.initial {
-        return false;
-    }
-    if states_b <= b.initial {
-        return false;
-    }
-    if 4096 < states_a {
-        return false;
-    }
-    if 4096 < states_b {
-        return false;
-    }
-    let count = states_a * states_b;
-    if 4096 < count {
-        return false;
-    }
-    if ca.len() != states_a * 32 {
-        return false;
-    }
-    if cb.len() != states_b * 32 {
-        return false;
-    }
-    if pairs != count {
-        return false;
-    }
-    true
+    a.initial < a.states
+        && b.initial < b.states
+        && a.states <= 4096
+        && b.states <= 4096
+        && a.states * b.states <= 4096
+        && ca.len() == a.states * 32
+        && cb.len() == b.states * 32
+        && pairs == a.states * b.states
 }

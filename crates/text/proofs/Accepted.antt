@@ -29,13 +29,14 @@ use Rattle.text.specs.declared.Spelling.TheVariants.{Exact}
 use Rattle.text.specs.declared.TextRefusal.{TextRefusal}
 use Rattle.text.specs.Fields.{split, onto, value}
 use Rattle.text.specs.Lines.{Entry, takes_table, parse}
-use Rattle.text.specs.Reading.{Signal, Reading, Result, next, stop, index_of, started, with_role, declaring, stepping, entered, Outcome, finished, ended, refuse_at, onward, is_nil, read_lines, fresh, read_from, read_alone, both, after_first, after_second, read_both}
+use Rattle.text.specs.Reading.{Signal, Reading, Change, next, stop, index_of, started, with_role, declaring, stepping, entered, Outcome, finished, ended, refuse_at, onward, is_nil, read_lines, fresh, read_from, read_alone, both, after_first, after_second, read_both}
 use Rattle.text.specs.Lookup.{declares}
 use Rattle.text.proofs.Split.{split-some}
 use Rattle.text.proofs.Names.{index_le}
 use Rattle.text.proofs.Lines.{From, of_table, of_declaration, of_step, of_refusal, from-line}
 use Rattle.text.proofs.Entries.{started_of, declaring_of, stepping_of}
 use Rattle.text.proofs.Roles.{member-none, declared-with, Lists, lists-with}
+use Rattle.theory.specs.declared.Rule.TheVariants as rule
 
 -- ---- what a line that is no refusal does
 
@@ -187,7 +188,7 @@ module _ (l : List Signal) (room : ℕ) where
 pub finished-same : (a b : Reading) → finished a ≡ finished b → a ≡ b
 finished-same a b e = cc
 
-pub onward-finished : (text k : ℕ) (r : Result) (f : Reading → Outcome) (b : Reading) → onward text k r f ≡ finished b → (a : Reading) × (r ≡ next a) × (f a ≡ finished b)
+pub onward-finished : (text k : ℕ) (r : Change) (f : Reading → Outcome) (b : Reading) → onward text k r f ≡ finished b → (a : Reading) × (r ≡ next a) × (f a ≡ finished b)
 onward-finished text k (next a) f b e = (a, refl, e)
 onward-finished text k (stop n) f b e = absurd (let z : ◌≡◌ {A = ℕ} 0 1 = cc in omega arith)
 
@@ -238,7 +239,7 @@ module _ (c : Spelling) (l : List Signal) (text room : ℕ) where
   opened bytes st e = go (ltb 65536 (length bytes)) bytes refl e
     where
       go : (b : Bool) (s : List ℕ) → bytes ≡ s
-          → cond b (refuse_at 13 text 0) (cond (is_nil s) (refuse_at 22 text 0) (read_lines c text 1 0 (fresh l room) (split 10 s))) ≡ finished st → Opened bytes st
+          → cond b (refuse_at rule.TextLength text 0) (cond (is_nil s) (refuse_at rule.EmptyText text 0) (read_lines c text 1 0 (fresh l room) (split 10 s))) ≡ finished st → Opened bytes st
       go true s q e = absurd (let z : ◌≡◌ {A = ℕ} 0 1 = cc in omega arith)
       go false [] q e = absurd (let z : ◌≡◌ {A = ℕ} 0 1 = cc in omega arith)
       go false (x ∷ s) q e = opened-lines bytes x s st q e

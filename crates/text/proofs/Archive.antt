@@ -18,7 +18,7 @@ use Rattle.text.specs.declared.Spelling.TheVariants.{Exact, Folded}
 use Rattle.text.specs.declared.Clash.{Clash}
 use Rattle.text.specs.Fields.{split, upto, clash}
 use Rattle.text.specs.Lines.{Entry, table, declaration, step, refused, role_word, parse}
-use Rattle.text.specs.Reading.{Signal, text_of, Reading, Result, next, stop, first_match, index_of, known, declaring, entered, Outcome, finished, refuse_at, is_nil, read_lines, fresh, read_from, read_alone, Joint, both, neither, read_both}
+use Rattle.text.specs.Reading.{Signal, text_of, Reading, Change, next, stop, first_match, index_of, known, declaring, entered, Outcome, finished, refuse_at, is_nil, read_lines, fresh, read_from, read_alone, Joint, both, neither, read_both}
 use Rattle.text.specs.Lookup.{nobody}
 use Rattle.text.specs.Clashes.{clashing, Unlike, line_of, declared_at, clash_at, clashes_of}
 use Rattle.text.proofs.Split.{split-more}
@@ -28,6 +28,7 @@ use Rattle.text.proofs.Lines.{From, of_table, of_declaration, of_step, of_refusa
 use Rattle.text.proofs.Entries.{started_of, declaring-clash, declaring-next, declaring_of, stepping_of}
 use Rattle.text.proofs.Accepted.{finished-same, onward-finished, unless-nil, read-both, accepted-both}
 use Rattle.text.proofs.Clashes.{Apart, apart-unlike, unlike-apart, none-clashing, clashing-are, first-clash, apart-known, apart-with, Late, late_put, late_append, late_listed, line-within}
+use Rattle.theory.specs.declared.Rule.TheVariants as rule
 
 -- ---- what a reading takes, the archive reading takes
 
@@ -54,8 +55,8 @@ lines-read : (c : Spelling) (l : List Signal) (text room : ℕ) (bytes : List �
 unfolding read_from
 lines-read c l text room bytes st e d = go (ltb 65536 (length bytes)) (is_nil bytes) _ _ e
   where
-    go : (v w : Bool) (x y : Outcome) → cond v (refuse_at 13 text 0) (cond w (refuse_at 22 text 0) x) ≡ finished st
-        → cond v (refuse_at 13 text 0) (cond w (refuse_at 22 text 0) y) ≡ y
+    go : (v w : Bool) (x y : Outcome) → cond v (refuse_at rule.TextLength text 0) (cond w (refuse_at rule.EmptyText text 0) x) ≡ finished st
+        → cond v (refuse_at rule.TextLength text 0) (cond w (refuse_at rule.EmptyText text 0) y) ≡ y
     go true w x y e = absurd (let z : ◌≡◌ {A = ℕ} 0 1 = cc in omega arith)
     go false true x y e = absurd (let z : ◌≡◌ {A = ℕ} 0 1 = cc in omega arith)
     go false false x y e = refl
@@ -128,8 +129,8 @@ unlike-both room bytes room' bytes' m p e =
 -- ---- the two readings, line by line, from signals that are apart
 
 -- What the reading makes of the k-th line of a text, where the archive reading comes to b: the same, or 28 for the first name that clashes.
-abbrev LineMeets : ℕ → ℕ → List ℕ → Reading → Result → Type 0
-LineMeets text k bytes b r = (r ≡ next b) ⊎ ((r ≡ stop 28) × Late text k bytes b.signals)
+abbrev LineMeets : ℕ → ℕ → List ℕ → Reading → Change → Type 0
+LineMeets text k bytes b r = (r ≡ next b) ⊎ ((r ≡ stop rule.NameClash) × Late text k bytes b.signals)
 
 -- A name that clashes is new in the archive reading, and so its signal is the last: a name that is not new clashes with none of signals that are apart.
 declaration-meets : (bytes : List ℕ) (a b : Reading) (r : Role) (s : Signal) → Apart Folded a.signals → declaring Exact a r s (index_of s.name a.signals) ≡ next b
@@ -168,7 +169,7 @@ entry-meets text k at bytes x p a b (of_refusal n least most) line w e = inl e
 
 -- What the reading makes of a text, where the archive reading comes to b: the same, or 28 at the line of the first name that clashes.
 abbrev pub Meets : ℕ → List ℕ → Reading → Outcome → Type 0
-Meets text bytes b o = (o ≡ finished b) ⊎ ((k : ℕ) × (o ≡ refuse_at 28 text k) × Late text k bytes b.signals)
+Meets text bytes b o = (o ≡ finished b) ⊎ ((k : ℕ) × (o ≡ refuse_at rule.NameClash text k) × Late text k bytes b.signals)
 
 lines_meet : (text : ℕ) (bytes : List ℕ) (k at : ℕ) (a b : Reading) (ls : List (List ℕ)) → split 10 (drop at bytes) ≡ ls → k + length ls ≡ suc (length (split 10 bytes))
     → Apart Folded a.signals → read_lines Exact text k at a ls ≡ finished b → Meets text bytes b (read_lines Folded text k at a ls)
@@ -204,11 +205,11 @@ read_meets l text room bytes st w e =
 -- What was read, unless a clash is listed: then the refusal of the first.
 abbrev pub unless_listed : List Clash → Joint → Joint
 unless_listed [] j = j
-unless_listed (k ∷ rest) j = neither (record { number = 28; text = k.later.text; line = k.later.line })
+unless_listed (k ∷ rest) j = neither (record { rule = rule.NameClash; text = k.later.text; line = k.later.line })
 
 module _ (room : ℕ) (m : List ℕ) (room' : ℕ) (p : List ℕ) (x y : Reading) (taken : read_both Exact room m room' p ≡ both x y) where
   late_refused : (text k : ℕ) → Late text k (text_of m p text) y.signals
-      → neither (record { number = 28; text = text; line = k }) ≡ unless_listed (clashes_of m p y.signals) (both x y)
+      → neither (record { rule = rule.NameClash; text = text; line = k }) ≡ unless_listed (clashes_of m p y.signals) (both x y)
   late_refused text k w = let (c, rest, e, f) = late_listed m p y.signals text k w in rw (e, f)
 
   -- Two texts that the archive reading takes: the reading takes them too, or refuses them for the first clash.

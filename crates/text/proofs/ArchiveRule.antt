@@ -13,15 +13,17 @@ use Rattle.text.specs.declared.Spelling.TheVariants.{Exact}
 use Rattle.text.specs.declared.TextRefusal.{TextRefusal}
 use Rattle.text.specs.Fields.{split, value}
 use Rattle.text.specs.Lines.{Entry, role_word, parse}
-use Rattle.text.specs.Reading.{Signal, Reading, Result, next, stop, index_of, started, with_role, known, declaring, stepping, entered, Outcome, finished, ended, onward, is_nil, read_lines, fresh, read_from, read_alone, Joint, both, neither, after_first, after_second, read_both}
+use Rattle.text.specs.Reading.{Signal, Reading, Change, next, stop, index_of, started, with_role, known, declaring, stepping, entered, Outcome, finished, ended, onward, is_nil, read_lines, fresh, read_from, read_alone, Joint, both, neither, after_first, after_second, read_both}
 use Rattle.text.specs.Lookup.{declares}
 use Rattle.text.proofs.Lines.{From, of_table, of_declaration, of_step, of_refusal, from-line}
+use Rattle.theory.specs.declared.Rule.TheVariants as rule
+use Rattle.theory.specs.Rules.{rule_number}
 
 -- A declaration is refused by 18 or 21 alone.
 pub declaring_archive : (st : Reading) (r : Role) (s : Signal)
     → declaring Exact st r s (index_of s.name st.signals)
-    ≡ cond (declares st (index_of s.name st.signals)) (stop 18)
-    (cond (leb 32 (index_of s.name st.signals)) (stop 21)
+    ≡ cond (declares st (index_of s.name st.signals)) (stop rule.DeclaredTwice)
+    (cond (leb 32 (index_of s.name st.signals)) (stop rule.NameCount)
     (next (record {
       place = Declarations;
       header = with_role r (index_of s.name st.signals) st.header;
@@ -33,17 +35,17 @@ declaring_archive st r s = rw (le-ltb (index_of s.name st.signals) (index_of s.n
 
 -- ---- every refusal has a lower number than 28: an entry's, a text's, that of two texts
 
-abbrev LowEntry : Result → Type 0
+abbrev LowEntry : Change → Type 0
 LowEntry (next st) = Unit {0}
-LowEntry (stop k) = k < 28
+LowEntry (stop k) = rule_number k < 28
 
 abbrev LowText : Outcome → Type 0
 LowText (finished st) = Unit {0}
-LowText (ended r) = r.number < 28
+LowText (ended r) = rule_number r.rule < 28
 
 abbrev LowBoth : Joint → Type 0
 LowBoth (both m p) = Unit {0}
-LowBoth (neither r) = r.number < 28
+LowBoth (neither r) = rule_number r.rule < 28
 
 either : {A : Type 0} (P : A → Type 0) (b : Bool) {x y : A} → P x → P y → P (cond b x y)
 either P true p q = p
@@ -71,7 +73,7 @@ low-lines text k at st (x ∷ y ∷ ls) =
     go (entered Exact text at st (parse st.place x)) (low-entry text at st (from-line st.place x))
     (λ st. low-lines text (suc k) (at + length x + 1) st (y ∷ ls))
   where
-    go : (r : Result) → LowEntry r → ((st : Reading) → LowText (read_lines Exact text (suc k) (at + length x + 1) st (y ∷ ls)))
+    go : (r : Change) → LowEntry r → ((st : Reading) → LowText (read_lines Exact text (suc k) (at + length x + 1) st (y ∷ ls)))
         → LowText (onward text k r (λ st. read_lines Exact text (suc k) (at + length x + 1) st (y ∷ ls)))
     go (next st) h rest = rest st
     go (stop n) h rest = h
@@ -95,13 +97,13 @@ low-both room bytes room' bytes' = first (read_from Exact [] 1 room bytes) (low-
 
 -- ---- so none has the number 28
 
-pub archive_never_28 : (l : List Signal) (text room : ℕ) (bytes : List ℕ) (r : TextRefusal) → read_from Exact l text room bytes ≡ ended r → ¬ (r.number ≡ 28)
+pub archive_never_28 : (l : List Signal) (text room : ℕ) (bytes : List ℕ) (r : TextRefusal) → read_from Exact l text room bytes ≡ ended r → ¬ (rule_number r.rule ≡ 28)
 archive_never_28 l text room bytes r e q = omega (arith, subst LowText e (low-text l text room bytes))
 
-pub archive_alone_never_28 : (room : ℕ) (bytes : List ℕ) (r : TextRefusal) → read_alone Exact room bytes ≡ ended r → ¬ (r.number ≡ 28)
+pub archive_alone_never_28 : (room : ℕ) (bytes : List ℕ) (r : TextRefusal) → read_alone Exact room bytes ≡ ended r → ¬ (rule_number r.rule ≡ 28)
 unfolding read_alone
 archive_alone_never_28 room bytes r e = archive_never_28 [] 1 room bytes r e
 
 pub archive_both_never_28 : (room : ℕ) (bytes : List ℕ) (room' : ℕ) (bytes' : List ℕ) (r : TextRefusal) → read_both Exact room bytes room' bytes' ≡ neither r
-    → ¬ (r.number ≡ 28)
+    → ¬ (rule_number r.rule ≡ 28)
 archive_both_never_28 room bytes room' bytes' r e q = omega (arith, subst LowBoth e (low-both room bytes room' bytes'))

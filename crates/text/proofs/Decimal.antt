@@ -9,7 +9,7 @@ use native.Mathlib.Decide.{dec_lt, ℕ_discrete}
 use lib.Dec.{eqb}
 use lib.ListN.{length, get_or, length-append, get_or-append}
 use borrow.Author.Tests.{eq-eqb, ne_eqb, le-leb, lt-ltb, le-ltb}
-use Rattle.text.specs.declared.Number.TheVariants.{Value}
+use Rattle.std.specs.Prelude.{Some}
 use Rattle.text.specs.Fields.{all, digit_byte, value_from, value, number_ok, number}
 use Rattle.text.specs.Writing.{digits_of, decimal}
 
@@ -95,6 +95,6 @@ decimal_ok n h =
       | no d ↦ rw (ne_eqb (length s) 1 d, ne_eqb (get_or s 0 0) 48 (w.lead (omega (arith, w.some))))
     ]
 
-pub decimal-number : (n : ℕ) → n ≤ 65535 → number (decimal n) ≡ Value n
+pub decimal-number : (n : ℕ) → n ≤ 65535 → number (decimal n) ≡ Some n
 unfolding number
 decimal-number n h = rw (decimal_ok n h, decimal-value n h)

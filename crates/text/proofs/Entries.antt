@@ -15,8 +15,10 @@ use Rattle.text.specs.declared.Role.{Role}
 use Rattle.text.specs.declared.Spelling.{Spelling}
 use Rattle.text.specs.Reading.{Signal, Reading, next, stop, first_match, started, with_role, known, declaring, stepping}
 use Rattle.text.specs.Lookup.{declares}
+use Rattle.theory.specs.declared.Rule.{Rule}
+use Rattle.theory.specs.declared.Rule.TheVariants as rule
 
-never : {n : ℕ} {st : Reading} → ¬ (stop n ≡ next st)
+never : {n : Rule} {st : Reading} → ¬ (stop n ≡ next st)
 never e = let z : ◌≡◌ {A = ℕ} 0 1 = cc in omega arith
 
 next-same : (a b : Reading) → next a ≡ next b → a ≡ b
@@ -25,21 +27,21 @@ next-same a b e = cc
 -- ---- the `table` line, of n states with the first state i
 
 module _ (st : Reading) (n i : ℕ) where
-  pub started_none : n ≡ 0 → started st n i ≡ stop 1
+  pub started_none : n ≡ 0 → started st n i ≡ stop rule.StateCount
   unfolding started
   started_none e = simp e
 
-  pub started-many : 4096 < n → started st n i ≡ stop 1
+  pub started-many : 4096 < n → started st n i ≡ stop rule.StateCount
   unfolding started
   started-many h = simp (lt-ltb 4096 n h, or-true)
 
   module _ (some : 0 < n) (few : n ≤ 4096) where
-    pub started-initial : n ≤ i → started st n i ≡ stop 2
+    pub started-initial : n ≤ i → started st n i ≡ stop rule.InitialState
     unfolding started
     started-initial h = simp (ne_eqb n 0 (λ e. omega arith), le-ltb 4096 n few, le-leb n i h)
 
     module _ (initial : i < n) where
-      pub started-room : length st.cells < n * 32 → started st n i ≡ stop 10
+      pub started-room : length st.cells < n * 32 → started st n i ≡ stop rule.RoomLength
       unfolding started
       started-room h = simp (ne_eqb n 0 (λ e. omega arith), le-ltb 4096 n few, lt-leb n i initial, lt-ltb (length st.cells) (n * 32) h)
 
@@ -52,17 +54,17 @@ module _ (st : Reading) (n i : ℕ) where
 -- ---- a declaration of the signal s, whose number is a
 
 module _ (c : Spelling) (st : Reading) (r : Role) (s : Signal) (a : ℕ) where
-  pub declaring-again : T (declares st a) → declaring c st r s a ≡ stop 18
+  pub declaring-again : T (declares st a) → declaring c st r s a ≡ stop rule.DeclaredTwice
   unfolding declaring
   declaring-again d = simp (is_true (declares st a) d)
 
   module _ (new : ¬ T (declares st a)) where
-    pub declaring-clash : first_match c s.name st.signals < a → declaring c st r s a ≡ stop 28
+    pub declaring-clash : first_match c s.name st.signals < a → declaring c st r s a ≡ stop rule.NameClash
     unfolding declaring
     declaring-clash h = simp (is_false (declares st a) new, lt-ltb (first_match c s.name st.signals) a h)
 
     module _ (unlike : a ≤ first_match c s.name st.signals) where
-      pub declaring-many : 32 ≤ a → declaring c st r s a ≡ stop 21
+      pub declaring-many : 32 ≤ a → declaring c st r s a ≡ stop rule.NameCount
       unfolding declaring
       declaring-many h = simp (is_false (declares st a) new, le-ltb (first_match c s.name st.signals) a unlike, le-leb 32 a h)
 
@@ -74,20 +76,20 @@ module _ (c : Spelling) (st : Reading) (r : Role) (s : Signal) (a : ℕ) where
 -- ---- a step of the signal a
 
 module _ (st : Reading) (from a to : ℕ) where
-  pub stepping-unknown : ¬ T (declares st a) → stepping st from a to ≡ stop 19
+  pub stepping-unknown : ¬ T (declares st a) → stepping st from a to ≡ stop rule.UnknownInStep
   unfolding stepping
   stepping-unknown n = simp (is_false (declares st a) n)
 
-  pub stepping-from : st.header.states ≤ from → stepping st from a to ≡ stop 19
+  pub stepping-from : st.header.states ≤ from → stepping st from a to ≡ stop rule.UnknownInStep
   unfolding stepping
   stepping-from h = simp (le-leb st.header.states from h, or-true (not (declares st a)))
 
-  pub stepping-to : st.header.states ≤ to → stepping st from a to ≡ stop 19
+  pub stepping-to : st.header.states ≤ to → stepping st from a to ≡ stop rule.UnknownInStep
   unfolding stepping
   stepping-to h = simp (le-leb st.header.states to h, or-true (not (declares st a) || leb st.header.states from))
 
   module _ (signal : T (declares st a)) (from_in : from < st.header.states) (to_in : to < st.header.states) where
-    pub stepping-again : ¬ (get_or st.cells (from * 32 + a) 65535 ≡ 65535) → stepping st from a to ≡ stop 20
+    pub stepping-again : ¬ (get_or st.cells (from * 32 + a) 65535 ≡ 65535) → stepping st from a to ≡ stop rule.StepTwice
     unfolding stepping
     stepping-again n =
         simp (

@@ -10,9 +10,10 @@ use Rattle.text.specs.declared.Spelling.{Spelling}
 use Rattle.text.specs.declared.TextRefusal.{TextRefusal}
 use Rattle.text.specs.Fields.{onto, split}
 use Rattle.text.specs.Lines.{parse}
-use Rattle.text.specs.Reading.{Signal, Reading, Result, next, stop, entered, Outcome, finished, ended, refuse_at, onward, is_nil, read_lines, fresh, read_from, read_alone, Joint, both, neither, after_first, after_second, read_both}
+use Rattle.text.specs.Reading.{Signal, Reading, Change, next, stop, entered, Outcome, finished, ended, refuse_at, onward, is_nil, read_lines, fresh, read_from, read_alone, Joint, both, neither, after_first, after_second, read_both}
 use Rattle.text.specs.Clashes.{line_of, declared_at}
 use Rattle.text.proofs.Accepted.{read-both}
+use Rattle.theory.specs.declared.Rule.TheVariants as rule
 
 -- ---- the line of a refusal
 
@@ -39,11 +40,11 @@ split-length b (x ∷ s) = elim (eqb x b) as (λ v. length (cond v ([] ∷ split
 lines-line : (c : Spelling) (text k at : ℕ) (st : Reading) (ls : List (List ℕ)) → refused_line (read_lines c text k at st ls) ≤ k + length ls
 unfolding read_lines refused_line
 lines-line c text k at st [] = omega arith
-lines-line c text k at st (l ∷ []) = elim (is_nil l) as (λ v. refused_line (cond v (finished st) (refuse_at 14 text k)) ≤ k + 1) [ true ↦ omega arith | false ↦ omega arith ]
+lines-line c text k at st (l ∷ []) = elim (is_nil l) as (λ v. refused_line (cond v (finished st) (refuse_at rule.LineForm text k)) ≤ k + 1) [ true ↦ omega arith | false ↦ omega arith ]
 lines-line c text k at st (l ∷ m ∷ ls) =
     go (entered c text at st (parse st.place l)) (λ st'. lines-line c text (suc k) (at + length l + 1) st' (m ∷ ls))
   where
-    go : (r : Result) → ((st' : Reading) → refused_line (read_lines c text (suc k) (at + length l + 1) st' (m ∷ ls)) ≤ suc k + length (m ∷ ls))
+    go : (r : Change) → ((st' : Reading) → refused_line (read_lines c text (suc k) (at + length l + 1) st' (m ∷ ls)) ≤ suc k + length (m ∷ ls))
         → refused_line (onward text k r (λ st. read_lines c text (suc k) (at + length l + 1) st (m ∷ ls))) ≤ k + length (l ∷ m ∷ ls)
     go (next st') rest = omega (arith, rest st')
     go (stop n) rest = omega arith
@@ -53,7 +54,7 @@ unfolding read_from refused_line
 text-line c l text room s = go (ltb 65536 (length s)) refl (is_nil s)
   where
     go : (v : Bool) → ltb 65536 (length s) ≡ v → (w : Bool)
-        → refused_line (cond v (refuse_at 13 text 0) (cond w (refuse_at 22 text 0) (read_lines c text 1 0 (fresh l room) (split 10 s)))) < 100000
+        → refused_line (cond v (refuse_at rule.TextLength text 0) (cond w (refuse_at rule.EmptyText text 0) (read_lines c text 1 0 (fresh l room) (split 10 s)))) < 100000
     go true e w = omega arith
     go false e true = omega arith
     go false e false = omega (arith, lines-line c text 1 0 (fresh l room) (split 10 s), split-length 10 s, nltb→le 65536 (length s) (rw e tt))
@@ -80,7 +81,7 @@ read_short : (c : Spelling) (l : List Signal) (text room : ℕ) (s : List ℕ) (
 unfolding read_from
 read_short c l text room s st = go (ltb 65536 (length s)) refl _
   where
-    go : (v : Bool) → ltb 65536 (length s) ≡ v → (o : Outcome) → cond v (refuse_at 13 text 0) o ≡ finished st → length s ≤ 65536
+    go : (v : Bool) → ltb 65536 (length s) ≡ v → (o : Outcome) → cond v (refuse_at rule.TextLength text 0) o ≡ finished st → length s ≤ 65536
     go true e o f = absurd (let z : ◌≡◌ {A = ℕ} 0 1 = cc in omega arith)
     go false e o f = nltb→le 65536 (length s) (rw e tt)
 

@@ -14,7 +14,7 @@ use Rattle.theory.specs.Table.{with_lists, table, member}
 use Rattle.theory.specs.Checks.{declared}
 use Rattle.theory.proofs.Sets.{member-or}
 use Rattle.theory.proofs.Tests.{is_false, or_cases, or_left, or_right}
-use Rattle.sets.proofs.Members.{has-none, has-power}
+use Rattle.sets.proofs.Membership.{has-none, has-power}
 use Rattle.text.specs.declared.Role.{Role}
 use Rattle.text.specs.declared.Role.TheVariants.{Input, Output}
 use Rattle.text.specs.Roles.{has_role}

@@ -9,13 +9,14 @@ use native.Mathlib.Omega.{arith}
 use lib.Dec.{T, ltb, ltb→lt}
 use lib.ListN.{length, take, drop}
 use lib.Seq.{take_at}
-use Rattle.theory.specs.declared.Checked.{Checked}
-use Rattle.theory.specs.declared.Checked.TheVariants.{Accepted, Refused}
+use Rattle.std.specs.Prelude.{Result, Ok, Err}
+use Rattle.std.specs.Result.{result_and}
+use Rattle.theory.specs.declared.Refusal.{Refusal}
 use Rattle.theory.specs.Table.{Table, automaton}
 use Rattle.theory.specs.Checks.{Check, unplaced, first, declared, table_checks}
 use Rattle.theory.specs.Valid.{Valid}
 use Rattle.theory.proofs.Bounded.{any_cong}
-use Rattle.theory.proofs.Checks.{passed_first, or_else, first-append, first-accepted, first_part, checks_valid}
+use Rattle.theory.proofs.Checks.{passed_first, first-append, first-accepted, first_part, checks_valid}
 use Rattle.theory.proofs.Options.{is-some}
 use Rattle.theory.proofs.Tests.{or_cases, or_right}
 use Rattle.text.specs.declared.Spelling.{Spelling}
@@ -23,6 +24,7 @@ use Rattle.text.specs.declared.Spelling.TheVariants.{Exact, Folded}
 use Rattle.text.specs.Fields.{matches, name_ok}
 use Rattle.text.specs.Writing.{tabbed, printed, those, signals, name_of, signal_row, step_row, step_rows, whole_text, has_step, enabled_signals, misnamed, ambiguous, text_length, too_long, writer_checks, writer_bytes, SameWriting}
 use Rattle.text.proofs.Ascending.{In, Ascending, in_those, those_ascending, those_in}
+use Rattle.theory.specs.declared.Rule.TheVariants as rule
 
 -- ---- lines
 
@@ -102,12 +104,12 @@ module _ (t : Table) (name : List ℕ) (names names' : List (List ℕ)) (called 
     where
       later : List (List ℕ) → List Check
       later l =
-          unplaced 16 0 (not (name_ok name)) ∷ unplaced 16 0 (misnamed t name l) ∷ unplaced 18 0 (ambiguous t name l Exact) ∷ unplaced 28 0 (ambiguous t name l Folded)
-          ∷ unplaced 23 0 (too_long t name l room) ∷ []
+          unplaced rule.NameForm 0 (not (name_ok name)) ∷ unplaced rule.NameForm 0 (misnamed t name l) ∷ unplaced rule.DeclaredTwice 0 (ambiguous t name l Exact) ∷ unplaced rule.NameClash 0 (ambiguous t name l Folded)
+          ∷ unplaced rule.TextRoom 0 (too_long t name l room) ∷ []
 
-      go : (k : Checked) → first (table_checks 1 t) ≡ k → or_else k (first (later names)) ≡ or_else k (first (later names'))
-      go Accepted e = rw (misnamed-same, ambiguous-same Exact, ambiguous-same Folded, text_same ((checks_valid 1 t).0 e))
-      go (Refused r) e = refl
+      go : (k : Result (Unit {0}) Refusal) → first (table_checks 1 t) ≡ k → result_and k (first (later names)) ≡ result_and k (first (later names'))
+      go (Ok tt) e = rw (misnamed-same, ambiguous-same Exact, ambiguous-same Folded, text_same ((checks_valid 1 t).0 e))
+      go (Err r) e = refl
 
 -- Equal tables, names and numbering have equal texts. A step by an undeclared signal would bring in a name that is not asked for, so the table is
 -- valid; for the checks no table is excluded.
@@ -120,8 +122,8 @@ module _ (t : Table) (name : List ℕ) (names : List (List ℕ)) (u : Table) (na
   same_checks room = checks_same t name names names' w.signal_names room ∙ (λ i. first (writer_checks (w.tables i) (w.table_names i) names' room))
 
 -- A call that the writer takes is taken with any other room for the text.
-pub enough_room : (t : Table) (name : List ℕ) (names : List (List ℕ)) (room other : ℕ) → first (writer_checks t name names room) ≡ Accepted
-    → text_length t name names ≤ other → first (writer_checks t name names other) ≡ Accepted
+pub enough_room : (t : Table) (name : List ℕ) (names : List (List ℕ)) (room other : ℕ) → first (writer_checks t name names room) ≡ Ok tt
+    → text_length t name names ≤ other → first (writer_checks t name names other) ≡ Ok tt
 unfolding writer_checks
 enough_room t name names room other e h =
     let n = text_length t name names in
@@ -136,7 +138,7 @@ enough_room t name names room other e h =
 -- ---- the lent bytes
 
 -- The lent bytes begin with the text, where the writer takes the call.
-pub written-text : (t : Table) (name : List ℕ) (names : List (List ℕ)) (bytes : List ℕ) → first (writer_checks t name names (length bytes)) ≡ Accepted
+pub written-text : (t : Table) (name : List ℕ) (names : List (List ℕ)) (bytes : List ℕ) → first (writer_checks t name names (length bytes)) ≡ Ok tt
     → (n : ℕ) → text_length t name names ≡ n → take n (writer_bytes t name names bytes) ≡ whole_text t name names
 unfolding writer_bytes text_length
 written-text t name names bytes e n h = rw e (take_at (whole_text t name names) (drop (length (whole_text t name names)) bytes) n h)

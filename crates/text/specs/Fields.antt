@@ -1,9 +1,7 @@
 -- Parts of a text, the name rule, the number rule (01, "Table text"). A text, a line and a field are lists of bytes.
-use Rattle.std.specs.Prelude.{Bool, true, false, not, ◌&&◌, ◌||◌, cond, List, [], ◌∷◌, ℕ, suc, ◌+◌, ◌-◌, ◌*◌, eqb, leb, length, get_or}
+use Rattle.std.specs.Prelude.{Bool, true, false, not, ◌&&◌, ◌||◌, cond, List, [], ◌∷◌, ℕ, suc, ◌+◌, ◌-◌, ◌*◌, eqb, leb, length, get_or, Option, Some, None}
 use Rattle.text.specs.declared.Spelling.{Spelling}
 use Rattle.text.specs.declared.Spelling.TheVariants.{Exact, Folded}
-use Rattle.text.specs.declared.Number.{Number}
-use Rattle.text.specs.declared.Number.TheVariants.{Value, Bad}
 
 -- ---- parts
 
@@ -78,5 +76,6 @@ unfoldable pub number_ok : List ℕ → Bool
 number_ok s =
     leb 1 (length s) && leb (length s) 5 && all digit_byte s && (eqb (length s) 1 || not (eqb (get_or s 0 0) 48)) && leb (value s) 65535
 
-unfoldable pub number : List ℕ → Number
-number s = cond (number_ok s) (Value (value s)) Bad
+-- The value of a number; none where the rule is broken.
+unfoldable pub number : List ℕ → Option ℕ
+number s = cond (number_ok s) (Some (value s)) None

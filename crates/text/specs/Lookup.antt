@@ -4,6 +4,7 @@ use Rattle.theory.specs.Table.{table}
 use Rattle.theory.specs.Checks.{declared}
 use Rattle.text.specs.declared.Spelling.{Spelling}
 use Rattle.text.specs.Reading.{Signal, Reading, Outcome, finished, ended, read_alone, Joint, both, neither, read_both}
+use Rattle.theory.specs.Rules.{rule_number}
 
 -- Cells enough for any table: a lookup reads into so many of its own, and 10 never applies to it (proofs/NeverTen.antt).
 abbrev pub ample : ℕ
@@ -26,7 +27,7 @@ signal_of (neither r) a = nobody
 -- The number of the refusal, 0 where nothing is refused.
 abbrev pub number_of : Joint → ℕ → ℕ
 number_of (both m p) a = cond (declares m a || declares p a) 0 12
-number_of (neither r) a = r.number
+number_of (neither r) a = rule_number r.rule
 
 unfoldable pub lookup : Spelling → List ℕ → List ℕ → ℕ → Signal
 lookup c m p a = signal_of (read_both c ample m ample p) a
@@ -42,7 +43,7 @@ signal_alone (ended r) a = nobody
 
 abbrev pub number_alone : Outcome → ℕ → ℕ
 number_alone (finished st) a = cond (declares st a) 0 12
-number_alone (ended r) a = r.number
+number_alone (ended r) a = rule_number r.rule
 
 unfoldable pub lookup_alone : Spelling → List ℕ → ℕ → Signal
 lookup_alone c m a = signal_alone (read_alone c ample m) a

@@ -14,6 +14,8 @@ use Rattle.text.specs.declared.TextRefusal.{TextRefusal}
 use Rattle.text.specs.Fields.{split, matches}
 use Rattle.text.specs.Lines.{Entry, table, declaration, step, refused, role_word, parse}
 use Rattle.text.specs.Roles.{list_of, with_list}
+use Rattle.theory.specs.declared.Rule.TheVariants as rule
+use Rattle.theory.specs.declared.Rule.{Rule}
 
 -- A signal: its name, and where that was first declared: in which text (1, 2), from which byte on.
 pub record Signal : Type 0 where
@@ -37,9 +39,9 @@ abbrev pub table_read : Reading → Table
 table_read r = table_of r.header (take (r.header.states * 32) r.cells)
 
 -- What a line does to a reading.
-pub data Result : Type 0 where
-  next : Reading → Result
-  stop : (number : ℕ) → Result
+pub data Change : Type 0 where
+  next : Reading → Change
+  stop : Rule → Change
 
 -- The number of the first signal whose name matches in a spelling; the next number where there is none.
 unfoldable pub first_match : Spelling → List ℕ → List Signal → ℕ
@@ -52,11 +54,11 @@ index_of n l = first_match Exact n l
 
 -- ---- the `table` line: 1, 2, 10
 
-unfoldable pub started : Reading → ℕ → ℕ → Result
+unfoldable pub started : Reading → ℕ → ℕ → Change
 started st states initial =
-    cond (eqb states 0 || ltb 4096 states) (stop 1)
-    (cond (leb states initial) (stop 2)
-    (cond (ltb (length st.cells) (states * 32)) (stop 10)
+    cond (eqb states 0 || ltb 4096 states) (stop rule.StateCount)
+    (cond (leb states initial) (stop rule.InitialState)
+    (cond (ltb (length st.cells) (states * 32)) (stop rule.RoomLength)
     (next (record {
       place = Declarations;
       header = header states initial 0 0;
@@ -75,26 +77,26 @@ abbrev pub known : List Signal → Signal → ℕ → List Signal
 known l s a = cond (ltb a (length l)) l (l ++ s ∷ [])
 
 -- Of the signal s, whose number is a. A name that matches one of a lower number, which is another name, clashes with it (28).
-unfoldable pub declaring : Spelling → Reading → Role → Signal → ℕ → Result
+unfoldable pub declaring : Spelling → Reading → Role → Signal → ℕ → Change
 declaring c st r s a =
-    cond (declared (table_of st.header []) a) (stop 18)
-    (cond (ltb (first_match c s.name st.signals) a) (stop 28)
-    (cond (leb 32 a) (stop 21)
+    cond (declared (table_of st.header []) a) (stop rule.DeclaredTwice)
+    (cond (ltb (first_match c s.name st.signals) a) (stop rule.NameClash)
+    (cond (leb 32 a) (stop rule.NameCount)
     (next (record { place = Declarations; header = with_role r a st.header; signals = known st.signals s a; cells = st.cells }))))
 
 -- ---- a step: 19, 20
 
 -- Of the signal a.
-unfoldable pub stepping : Reading → ℕ → ℕ → ℕ → Result
+unfoldable pub stepping : Reading → ℕ → ℕ → ℕ → Change
 stepping st from a to =
-    cond (not (declared (table_of st.header []) a) || leb st.header.states from || leb st.header.states to) (stop 19)
-    (cond (not (eqb (get_or st.cells (from * 32 + a) 65535) 65535)) (stop 20)
+    cond (not (declared (table_of st.header []) a) || leb st.header.states from || leb st.header.states to) (stop rule.UnknownInStep)
+    (cond (not (eqb (get_or st.cells (from * 32 + a) 65535) 65535)) (stop rule.StepTwice)
     (next (record { place = Steps; header = st.header; signals = st.signals; cells = set st.cells (from * 32 + a) to })))
 
 -- ---- a line, and all lines
 
 -- A line of the given text that begins at the byte `at`. A declared name stands after the line's kind and a tab.
-unfoldable pub entered : Spelling → ℕ → ℕ → Reading → Entry → Result
+unfoldable pub entered : Spelling → ℕ → ℕ → Reading → Entry → Change
 entered c text at st (table states initial) = started st states initial
 entered c text at st (declaration r n) =
     declaring c st r (record { name = n; text = text; from = at + length (role_word r) + 1 }) (index_of n st.signals)
@@ -106,10 +108,10 @@ pub data Outcome : Type 0 where
   finished : Reading → Outcome
   ended : TextRefusal → Outcome
 
-abbrev pub refuse_at : ℕ → ℕ → ℕ → Outcome
-refuse_at n text line = ended (record { number = n; text = text; line = line })
+abbrev pub refuse_at : Rule → ℕ → ℕ → Outcome
+refuse_at k text line = ended (record { rule = k; text = text; line = line })
 
-abbrev pub onward : ℕ → ℕ → Result → (Reading → Outcome) → Outcome
+abbrev pub onward : ℕ → ℕ → Change → (Reading → Outcome) → Outcome
 onward text line (next st) f = f st
 onward text line (stop n) f = refuse_at n text line
 
@@ -120,7 +122,7 @@ is_nil (x ∷ s) = false
 -- The lines from the k-th on, which begins at the byte `at`. After the last LF nothing may stand (14).
 unfoldable pub read_lines : Spelling → ℕ → ℕ → ℕ → Reading → List (List ℕ) → Outcome
 read_lines c text k at st [] = finished st
-read_lines c text k at st (l ∷ []) = cond (is_nil l) (finished st) (refuse_at 14 text k)
+read_lines c text k at st (l ∷ []) = cond (is_nil l) (finished st) (refuse_at rule.LineForm text k)
 read_lines c text k at st (l ∷ m ∷ ls) =
     onward text k (entered c text at st (parse st.place l)) (λ st. read_lines c text (suc k) (at + length l + 1) st (m ∷ ls))
 
@@ -138,8 +140,8 @@ fresh l room = record {
 -- 13, then the lines; 22.
 unfoldable pub read_from : Spelling → List Signal → ℕ → ℕ → List ℕ → Outcome
 read_from c l text room bytes =
-    cond (ltb 65536 (length bytes)) (refuse_at 13 text 0)
-    (cond (is_nil bytes) (refuse_at 22 text 0) (read_lines c text 1 0 (fresh l room) (split 10 bytes)))
+    cond (ltb 65536 (length bytes)) (refuse_at rule.TextLength text 0)
+    (cond (is_nil bytes) (refuse_at rule.EmptyText text 0) (read_lines c text 1 0 (fresh l room) (split 10 bytes)))
 
 -- A text alone; room is the number of lent cells.
 unfoldable pub read_alone : Spelling → ℕ → List ℕ → Outcome

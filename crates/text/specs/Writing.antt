@@ -9,6 +9,7 @@ use Rattle.text.specs.declared.Spelling.TheVariants.{Exact, Folded}
 use Rattle.text.specs.Fields.{matches, name_ok}
 use Rattle.text.specs.Lines.{table_word, role_word, step_word}
 use Rattle.text.specs.Roles.{role_of}
+use Rattle.theory.specs.declared.Rule.TheVariants as rule
 
 -- ---- numbers
 
@@ -97,8 +98,8 @@ module _ (t : Table) (name : List ℕ) (names : List (List ℕ)) where
   unfoldable pub writer_checks : ℕ → List Check
   writer_checks room =
       table_checks 1 t
-      ++ (unplaced 16 0 (not (name_ok name)) ∷ unplaced 16 0 misnamed ∷ unplaced 18 0 (ambiguous Exact) ∷ unplaced 28 0 (ambiguous Folded)
-      ∷ unplaced 23 0 (too_long room) ∷ [])
+      ++ (unplaced rule.NameForm 0 (not (name_ok name)) ∷ unplaced rule.NameForm 0 misnamed ∷ unplaced rule.DeclaredTwice 0 (ambiguous Exact) ∷ unplaced rule.NameClash 0 (ambiguous Folded)
+      ∷ unplaced rule.TextRoom 0 (too_long room) ∷ [])
 
   -- The lent bytes after the call: the text, then the bytes as they were; all of them after a refusal.
   unfoldable pub writer_bytes : List ℕ → List ℕ

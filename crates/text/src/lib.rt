@@ -1,6 +1,8 @@
 // The types of table text that its definitions and the calls on it share. There is no code here.
 #![tactic(auto)]
 
+use theory::Rule;
+
 // Where a line of a text stands: the `table` line comes first, then declarations, then steps.
 #[derive(Clone, Copy)]
 pub enum Place {
@@ -23,18 +25,11 @@ pub enum Spelling {
     Folded,
 }
 
-// Value of a decimal number; or `Bad` if it breaks document 01's number rule.
-#[derive(Clone, Copy)]
-pub enum Number {
-    Value(usize),
-    Bad,
-}
-
-// Why a text is refused: document 01's number, the text at fault (1 the first, 2 the second), and the line at fault, from 1; 0 for 13 and 22, which
-// concern the whole text.
+// Why a text is refused: the rule that it breaks, the text at fault (1 the first, 2 the second), and the line at fault, from 1; 0 for the rules 13
+// and 22, which concern the whole text. A report tells of what is refused after the reading in the same form: the table, 0 for neither, and line 0.
 #[derive(Clone, Copy)]
 pub struct TextRefusal {
-    pub number: u32,
+    pub rule: Rule,
     pub text: u32,
     pub line: usize,
 }

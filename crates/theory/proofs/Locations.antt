@@ -10,28 +10,27 @@ use native.Mathlib.Nat.{div-add-mod'}
 use lib.Arith.{digits_lt, digits_mod}
 use lib.Dec.{T, eqb, ltb, leb, ltb→lt, leb→le, T_not, not_T}
 use borrow.Author.Tests.{lt-ltb, le-leb, eq-eqb, ne_eqb}
-use Rattle.theory.specs.declared.Location.{Location}
-use Rattle.theory.specs.declared.Location.TheVariants.{Cell, Nowhere}
 use Rattle.theory.specs.declared.Refusal.{Refusal}
-use Rattle.theory.specs.declared.Checked.{Checked}
-use Rattle.theory.specs.declared.Checked.TheVariants.{Accepted, Refused}
+use Rattle.std.specs.Prelude.{None, Some, Result, Ok, Err}
+use Rattle.std.specs.Result.{result_and}
 use Rattle.theory.specs.Bounded.{any, lowest}
 use Rattle.theory.specs.Table.{Table, cell_at}
-use Rattle.theory.specs.Checks.{Check, refusal_of, first, unless_refused, declared, stray, is_stray, is_undeclared, cell_of, check1, check2, check3, check4, check5, check6, shape_checks, table_checks, monitor_checks, each_table, size_checks, composable_checks, refinement_checks, synthesis_checks}
+use Rattle.theory.specs.Checks.{Place, Check, refusal_of, first, unless_refused, declared, stray, is_stray, is_undeclared, cell_of, check1, check2, check3, check4, check5, check6, shape_checks, table_checks, monitor_checks, each_table, size_checks, composable_checks, refinement_checks, synthesis_checks}
 use Rattle.theory.specs.Locations.{Stray, Undeclared, Precedes, FirstBad, NoneBad, called, Located, of_table, of_five, of_six, nowhere, LocatedIn, LocatedAt}
 use Rattle.theory.proofs.Tests.{and_left, and_right, and_both}
 use Rattle.theory.proofs.Bounded.{at-any}
-use Rattle.theory.proofs.Checks.{or_else, first-append}
+use Rattle.theory.proofs.Checks.{first-append}
 use Rattle.theory.proofs.Lowest.{lowest-is}
+use Rattle.theory.specs.Rules.{rule_number}
 
 -- ---- any list of checks
 
 -- Whatever refusal the list gives has the property.
 abbrev pub Refuses : List Check → (Refusal → Type 0) → Type 0
-Refuses l P = (r : Refusal) → first l ≡ Refused r → P r
+Refuses l P = (r : Refusal) → first l ≡ Err r → P r
 
 module _ (P : Refusal → Type 0) where
-  same-refusal : (r s : Refusal) → Refused r ≡ Refused s → P r → P s
+  same-refusal : (r s : Refusal) → ◌≡◌ {A = Result (Unit {0}) Refusal} (Err r) (Err s) → P r → P s
   same-refusal r s e p = let q : r ≡ s = cc in subst P q p
 
   pub none-refuses : Refuses [] P
@@ -43,7 +42,7 @@ module _ (P : Refusal → Type 0) where
   unfolding first
   one-refuses c l now later r = go c.applies now later
     where
-      go : (b : Bool) → (T b → P (refusal_of c)) → (¬ T b → Refuses l P) → cond b (Refused (refusal_of c)) (first l) ≡ Refused r → P r
+      go : (b : Bool) → (T b → P (refusal_of c)) → (¬ T b → Refuses l P) → cond b (Err (refusal_of c)) (first l) ≡ Err r → P r
       go true now later e = same-refusal (refusal_of c) r e (now tt)
       go false now later e = later (λ t. t) r e
 
@@ -51,37 +50,37 @@ module _ (P : Refusal → Type 0) where
   pub both-refuse : (l m : List Check) → Refuses l P → Refuses m P → Refuses (l ++ m) P
   both-refuse l m left right r e = go (first l) (left r) (sym (first-append l m) ∙ e)
     where
-      go : (k : Checked) → (k ≡ Refused r → P r) → or_else k (first m) ≡ Refused r → P r
-      go Accepted left e = right r e
-      go (Refused s) left e = left e
+      go : (k : Result (Unit {0}) Refusal) → (k ≡ Err r → P r) → result_and k (first m) ≡ Err r → P r
+      go (Ok tt) left e = right r e
+      go (Err s) left e = left e
 
 -- ---- checks that look at no cell
 
 -- Whether each check has a number from 7 on and names no cell.
-abbrev is_nowhere : Location → Bool
-is_nowhere (Cell s a) = false
-is_nowhere Nowhere = true
+abbrev is_nowhere : Place → Bool
+is_nowhere (Some c) = false
+is_nowhere None = true
 
 abbrev pub all_unplaced : List Check → Bool
 all_unplaced [] = true
-all_unplaced (c ∷ l) = (leb 7 c.number && is_nowhere c.location) && all_unplaced l
+all_unplaced (c ∷ l) = (leb 7 (rule_number c.rule) && is_nowhere c.location) && all_unplaced l
 
-is-nowhere : (l : Location) → T (is_nowhere l) → l ≡ Nowhere
-is-nowhere (Cell s a) t = absurd t
-is-nowhere Nowhere t = refl
+is-nowhere : (l : Place) → T (is_nowhere l) → l ≡ None
+is-nowhere (Some c) t = absurd t
+is-nowhere None t = refl
 
-pub unplaced-located : (five six : ℕ → Location → Type 0) (l : List Check) → T (all_unplaced l) → Refuses l (Located five six)
+pub unplaced-located : (five six : ℕ → Place → Type 0) (l : List Check) → T (all_unplaced l) → Refuses l (Located five six)
 unplaced-located five six [] u = none-refuses (Located five six)
 unplaced-located five six (c ∷ l) u =
-    let one = leb 7 c.number && is_nowhere c.location in
+    let one = leb 7 (rule_number c.rule) && is_nowhere c.location in
     let here = and_left one (all_unplaced l) u in
     one-refuses (Located five six) c l
-    (λ t. nowhere (leb→le 7 c.number (and_left (leb 7 c.number) (is_nowhere c.location) here))
-    (is-nowhere c.location (and_right (leb 7 c.number) (is_nowhere c.location) here)))
+    (λ t. nowhere (leb→le 7 (rule_number c.rule) (and_left (leb 7 (rule_number c.rule)) (is_nowhere c.location) here))
+    (is-nowhere c.location (and_right (leb 7 (rule_number c.rule)) (is_nowhere c.location) here)))
     (λ n. unplaced-located five six l (and_right one (all_unplaced l) u))
 
 -- 1 to 4 of a table, then other checks.
-pub shape-located : (five six : ℕ → Location → Type 0) (i : ℕ) (t : Table) (l : List Check) → Refuses l (Located five six)
+pub shape-located : (five six : ℕ → Place → Type 0) (i : ℕ) (t : Table) (l : List Check) → Refuses l (Located five six)
     → Refuses (shape_checks i t ++ l) (Located five six)
 shape-located five six i t l others =
     let by = one-refuses (Located five six) in
@@ -195,6 +194,6 @@ pub reply_refuses : {A : Type 0} (P : Refusal → Type 0) (l : List Check) → R
     → T (right a) → ¬ T (right (f r)) → ((s : Refusal) → f s ≡ f r → s ≡ r) → unless_refused (first l) f a ≡ f r → P r
 reply_refuses P l holds right f a r other never same = go (first l) (holds r)
   where
-    go : (k : Checked) → (k ≡ Refused r → P r) → unless_refused k f a ≡ f r → P r
-    go Accepted p e = absurd (never (subst (λ x. T (right x)) e other))
-    go (Refused s) p e = p (ap Refused (same s e))
+    go : (k : Result (Unit {0}) Refusal) → (k ≡ Err r → P r) → unless_refused k f a ≡ f r → P r
+    go (Ok tt) p e = absurd (never (subst (λ x. T (right x)) e other))
+    go (Err s) p e = p (ap Err (same s e))

@@ -1,11 +1,10 @@
 -- Where a refusal says that a table is at fault (02, S-2), said of cells by state and signal, without the order in which they are stored.
-use Rattle.std.specs.Prelude.{◌≡◌, ◌⊎◌, List, [], ◌∷◌, ℕ, zero, suc, ◌<◌, ◌≤◌, T}
+use Rattle.std.specs.Prelude.{◌≡◌, ◌⊎◌, List, [], ◌∷◌, ℕ, zero, suc, ◌<◌, ◌≤◌, T, None}
 use Rattle.std.proofs.Math.Option.{Option, none, some}
-use Rattle.theory.specs.declared.Location.{Location}
-use Rattle.theory.specs.declared.Location.TheVariants.{Cell, Nowhere}
 use Rattle.theory.specs.declared.Refusal.{Refusal}
 use Rattle.theory.specs.Table.{Table, cell_at}
-use Rattle.theory.specs.Checks.{declared}
+use Rattle.theory.specs.Checks.{Place, at_cell, declared}
+use Rattle.theory.specs.Rules.{rule_number}
 
 -- A cell is bad by 5: it is neither 65,535 nor a state.
 abbrev pub Stray : Table → ℕ → ℕ → Type 0
@@ -20,10 +19,10 @@ abbrev pub Precedes : ℕ → ℕ → ℕ → ℕ → Type 0
 Precedes s a s' a' = (s < s') ⊎ ((s ≡ s') × (a < a'))
 
 -- The location is the first bad cell of a table.
-pub record FirstBad (t : Table) (Bad : ℕ → ℕ → Type 0) (l : Location) : Type 0 where
+pub record FirstBad (t : Table) (Bad : ℕ → ℕ → Type 0) (l : Place) : Type 0 where
   pub state : ℕ
   pub action : ℕ
-  pub at : l ≡ Cell state action
+  pub at : l ≡ at_cell state action
   pub in_states : state < t.header.states
   pub in_actions : action < 32
   pub bad : Bad state action
@@ -41,11 +40,11 @@ called (t ∷ l) (suc zero) = some t
 called (t ∷ l) (suc (suc i)) = called l (suc i)
 
 -- What a refusal's location says, by its number: what 5 and 6 say is asked of the table that the refusal names, and of the location.
-pub data Located (five six : ℕ → Location → Type 0) (r : Refusal) : Type 0 where
-  of_table : 1 ≤ r.number → r.number ≤ 4 → r.location ≡ Cell 0 0 → Located five six r
-  of_five : r.number ≡ 5 → five r.table r.location → Located five six r
-  of_six : r.number ≡ 6 → six r.table r.location → Located five six r
-  nowhere : 7 ≤ r.number → r.location ≡ Nowhere → Located five six r
+pub data Located (five six : ℕ → Place → Type 0) (r : Refusal) : Type 0 where
+  of_table : 1 ≤ rule_number r.rule → rule_number r.rule ≤ 4 → r.location ≡ at_cell 0 0 → Located five six r
+  of_five : rule_number r.rule ≡ 5 → five r.table r.location → Located five six r
+  of_six : rule_number r.rule ≡ 6 → six r.table r.location → Located five six r
+  nowhere : 7 ≤ rule_number r.rule → r.location ≡ None → Located five six r
 
 -- Of a call that makes checks 1 to 6 of its tables: the first cell bad by that number; for 6, no cell is bad by 5.
 abbrev pub LocatedIn : List Table → Refusal → Type 0
@@ -55,4 +54,4 @@ LocatedIn tables =
 
 -- Of the follower at a state, for a signal: its 5 names its own cell, and it makes no check 6.
 abbrev pub LocatedAt : Table → ℕ → ℕ → Refusal → Type 0
-LocatedAt t s a = Located (λ i l. (l ≡ Cell s a) × Stray t s a) (λ i l. ⊥)
+LocatedAt t s a = Located (λ i l. (l ≡ at_cell s a) × Stray t s a) (λ i l. ⊥)

@@ -1,7 +1,7 @@
 -- A better part in the same place (S-13 of document 02, "02" below): for all accepted tables at any number of pairs, and over what the calls give.
 use Rattle.std.specs.Prelude.{◌≡◌, ◌↔◌, cond, ℕ, ◌*◌, ◌/◌, ◌%◌, ◌<◌, T, eqb, get_or}
 use Rattle.theory.specs.declared.Automaton.{Automaton}
-use Rattle.theory.specs.declared.Checked.TheVariants.{Accepted}
+use Rattle.std.specs.Prelude.{Ok}
 use Rattle.theory.specs.Interface.{InterfaceAutomaton, CompatiblePair, Compatible, compose, Refinement}
 use Rattle.theory.specs.Numbered.{interface, pair}
 use Rattle.theory.specs.Table.{header, Table, automaton, cell_at, composition, composed_table, refinement}
@@ -84,13 +84,13 @@ pub record PremisesNeeded : Type 0 where
 -- No check refuses refine on x and y, lent as many marks as `marks` says.
 pub record RefineAccepts (x y : Table) : Type 0 where
   pub marks : ℕ
-  pub accepted : first (refinement_checks x y marks) ≡ Accepted
+  pub accepted : first (refinement_checks x y marks) ≡ Ok tt
 
 -- No check refuses compose on y and z, lent as many cells and flags as `cells` and `flags` say.
 pub record ComposeAccepts (y z : Table) : Type 0 where
   pub cells : ℕ
   pub flags : ℕ
-  pub accepted : first (composition_checks y z cells flags) ≡ Accepted
+  pub accepted : first (composition_checks y z cells flags) ≡ Ok tt
 
 -- Refine accepts exactly the accepted tables of at most 4,096 pairs, compose those among them that have no output in common.
 pub record AcceptedCalls (x y : Table) : Type 0 where

@@ -1,6 +1,6 @@
 -- The lines of a table's text, one after the other.
 use mathlib.Core.Path.{◌≡◌, refl, sym, ap, subst, ◌∙◌}
-use mathlib.Core.Bool.{Bool, true, false, ◌&&◌, cond, and-false}
+use mathlib.Core.Bool.{Bool, true, false, not, ◌&&◌, cond, and-false}
 use mathlib.Core.List.{List, [], ◌∷◌, ◌++◌, map}
 use mathlib.Core.Logic.{inl, inr}
 use mathlib.Core.Option.{none, some}
@@ -10,22 +10,21 @@ use native.Mathlib.Numerals.{add-one}
 use native.Mathlib.Omega.{arith}
 use denote.Ref.{Bor}
 use lib.Count.{count_trailing_zeros}
-use lib.Dec.{T, ltb}
+use lib.Dec.{T, eqb, ltb}
 use lib.ListN.{length, get_or, length-append}
 use borrow.Author.Tests.{lt-ltb, le-ltb}
-use Rattle.theory.proofs.Tests.{is_true}
+use Rattle.theory.proofs.Tests.{is_true, and_left}
 use Rattle.theory.specs.declared.Automaton.{Automaton}
 use Rattle.theory.specs.Closure.{is_some}
 use Rattle.theory.specs.Sets.{has}
-use Rattle.theory.specs.Table.{declared_set, Table, table, automaton, member, cell_at}
+use Rattle.theory.specs.Table.{declared_set, Table, table, automaton, cell_at}
 use Rattle.theory.specs.Checks.{declared}
 use Rattle.theory.specs.Valid.{Valid}
 use Rattle.theory.proofs.Filled.{any_default}
 use Rattle.theory.proofs.Options.{is-some}
 use Rattle.theory.proofs.Table.{table-narrow}
-use Rattle.sets.proofs.Visit.{low}
+use Rattle.sets.proofs.Visit.{Low, low}
 use Rattle.text.specs.declared.Role.{Role}
-use Rattle.text.specs.declared.Role.TheVariants.{Input, Output}
 use Rattle.text.specs.Roles.{role_of}
 use Rattle.text.specs.Writing.{printed, those, signals, name_of, table_row, signal_row, step_row, step_rows, whole_text, has_step, enabled_signals}
 use Rattle.text.proofs.Ascending.{In, in_those, those-few}
@@ -35,33 +34,42 @@ use Rattle.emit.specs.Buffer.{stored}
 use Rattle.emit.proofs.Decimal.{decimal_most}
 use Rattle.emit.proofs.Rows.{table-long, signal-long, word_most, step-long}
 use Rattle.names.specs.LentNames.{texts, Named}
-use Rattle.names.proofs.LentNames.{name-lent, lent_length}
+use Rattle.names.proofs.LentNames.{name-lent, lent_length, named-entry, named-part}
 use Rattle.names.proofs.Checks.{declared-has}
 use Rattle.names.proofs.Listed.{those-same, those-lowest, those_empty}
 use Rattle.writer.specs.Rows.{signal_lines, cell_text, steps, state_lines, step_lines, Known, Writable}
-use Rattle.writer.proofs.Counted.{Counts, counts_none, counts_then, Left, left-room}
+use Rattle.writer.proofs.Counted.{Counts, counts_none, counts_then}
 
 -- ---- signals
 
-module _ (h : Automaton) (s : ℕ) (b : Bool) (e : b ≡ member h.inputs s) where
-  pub role_input : b ≡ true → Input ≡ role_of h s
-  role_input f = rw (← e, f)
+-- A step of the iterator over a set's members: s comes of the set `left`, of which `left'` is to come.
+abbrev pub Comes : ℕ → ℕ → ℕ → Type 0
+Comes left s left' = (0 < left) × (s ≡ count_trailing_zeros 32 left) × (left' ≡ left - 2 ^ count_trailing_zeros 32 left)
 
-  pub role_output : b ≡ false → Output ≡ role_of h s
-  role_output f = rw (← e, f)
+module _ (left s left' : ℕ) (bound : left < 2 ^ 32) (step : Comes left s left') where
+  pub left-bound : left' < 2 ^ 32
+  left-bound = omega (arith, step.2)
 
-pub signals-next : (left : ℕ) (h : Automaton) (names : List (List ℕ)) → left < 2 ^ 32 → ¬ (left ≡ 0) → (s : ℕ) → s ≡ count_trailing_zeros 32 left → (role : Role) → role ≡ role_of h s
-    → (name : List ℕ) → name ≡ name_of names s → (left' : ℕ) → left' ≡ left - 2 ^ count_trailing_zeros 32 left
-    → signal_lines left h names ≡ signal_text role name ++ signal_lines left' h names
-unfolding signal_lines signal_row
-signals-next left h names bound more s e role f name g left' k = rw (those-lowest 32 left (omega arith) bound, f, g, e, k) (printed-append (_ ∷ []) _)
+  lowest : Low 32 left (count_trailing_zeros 32 left)
+  lowest = low 32 left step.0 bound
 
--- The end of the next line fits a number of 64 bits.
-pub signals-room : (d₀ : List ℕ) (at₀ : ℕ) (whole d : List ℕ) (at left : ℕ) (h : Automaton) (names : List (List ℕ)) → Left d₀ at₀ whole d at (signal_lines left h names)
-    → at₀ + length whole < 2 ^ 64 → left < 2 ^ 32 → ¬ (left ≡ 0) → (s : ℕ) → s ≡ count_trailing_zeros 32 left → (role : Role) → role ≡ role_of h s
-    → (name : List ℕ) → name ≡ name_of names s → at + length (signal_text role name) < 2 ^ 64
-signals-room d₀ at₀ whole d at left h names l fits bound more s e role f name g =
-    left-room d₀ at₀ whole d at _ l (signal_text role name) (signal_lines (left - 2 ^ count_trailing_zeros 32 left) h names) (signals-next left h names bound more s e role f name g _ refl) fits
+  pub comes-below : s < 32
+  comes-below = omega (arith, step.1, lowest.lowest.below)
+
+  pub named-next : (l : List (Bor (List ℕ))) → Named left (texts l) → s < length l
+  named-next l n = rw step.1 (named-entry l left n (count_trailing_zeros 32 left) lowest.lowest.below lowest.lowest.passes)
+
+  pub named-left : (names : List (List ℕ)) → Named left names → Named left' names
+  named-left names n =
+      let inside : (a : ℕ) → T (has (left - 2 ^ count_trailing_zeros 32 left) a) → T (has left a) =
+      λ a h. and_left (has left a) (not (eqb a (count_trailing_zeros 32 left))) (subst T (lowest.rest a) h) in
+      rw step.2 (named-part names left (left - 2 ^ count_trailing_zeros 32 left) inside n)
+
+  pub signals-next : (h : Automaton) (names : List (List ℕ)) (role : Role) → role ≡ role_of h s → (name : List ℕ) → name ≡ name_of names s
+      → signal_lines left h names ≡ signal_text role name ++ signal_lines left' h names
+  unfolding signal_lines signal_row
+  signals-next h names role f name g =
+      rw (those-lowest 32 left step.0 bound, f, g, step.1, step.2) (printed-append (_ ∷ []) _)
 
 pub signals-none : (left : ℕ) (h : Automaton) (names : List (List ℕ)) → left ≡ 0 → signal_lines left h names ≡ []
 unfolding signal_lines printed
@@ -70,8 +78,8 @@ signals-none left h names e = rw (e, those_empty 32)
 -- ---- a cell
 
 module _ (n state : ℕ) (cell : ℕ) where
-  pub cell-none : (d : List ℕ) (at : ℕ) (name : List ℕ) → n ≤ cell → Counts d at (cell_text n state name cell) at d
-  cell-none d at name h = rw (le-ltb cell n h) (counts_none d at)
+  pub cell_none : (d : List ℕ) (at : ℕ) (name : List ℕ) → n ≤ cell → Counts d at (cell_text n state name cell) at d
+  cell_none d at name h = rw (le-ltb cell n h) (counts_none d at)
 
   module _ (l : List (Bor (List ℕ))) (i : ℕ) (x : Bor (List ℕ)) (step : cell < n) (there : i < length l) where
     cell-text : cell_text n state (name_of (texts l) i) cell ≡ step_text state (get_or l i x).now cell
@@ -86,11 +94,11 @@ module _ (n state : ℕ) (cell : ℕ) where
 
 -- ---- steps
 
--- A step's signal has an entry, in the form that code asks for: cells are counted from the row's first one, and names are lent.
+-- A step's signal has an entry among the lent names.
 pub entry-lent : (n : ℕ) (cells : List ℕ) (names : List (Bor (List ℕ))) → Writable n cells (texts names)
-    → (state first a : ℕ) → first ≡ state * 32 → state < n → a < 32 → get_or cells (first + a) 0 < n → a < length names
-entry-lent n cells names w state first a e h k c =
-    let c' : get_or cells (state * 32 + a) 65535 < n = rw (any_default cells (state * 32 + a) 65535 0 (omega (arith, w.size))) (rw e at c) in
+    → (state a : ℕ) → state < n → a < 32 → get_or cells (state * 32 + a) 0 < n → a < length names
+entry-lent n cells names w state a h k c =
+    let c' : get_or cells (state * 32 + a) 65535 < n = rw (any_default cells (state * 32 + a) 65535 0 (omega (arith, w.size))) c in
     omega (arith, lent_length names, w.entry state a h k c')
 
 -- The numbers of a list that pass the test.
@@ -111,7 +119,7 @@ module _ (n : ℕ) (cells : List ℕ) (names : List (List ℕ)) where
   abbrev t : Table
   t = steps n cells
 
-  steps-lowest : (state left : ℕ) → left < 2 ^ 32 → ¬ (left ≡ 0)
+  steps-lowest : (state left : ℕ) → left < 2 ^ 32 → 0 < left
       → state_lines n cells names state left
       ≡ cell_text n state (name_of names (count_trailing_zeros 32 left)) (cell_at t state (count_trailing_zeros 32 left))
       ++ state_lines n cells names state (left - 2 ^ count_trailing_zeros 32 left)
@@ -119,7 +127,7 @@ module _ (n : ℕ) (cells : List ℕ) (names : List (List ℕ)) where
   steps-lowest state left bound more =
       let s = count_trailing_zeros 32 left in
       rw (those-keep (has_step t state) (has left) 0 32, those-keep (has_step t state) (has (left - 2 ^ s)) 0 32)
-      (rw (those-lowest 32 left (omega arith) bound, lt-ltb s 32 (low 32 left (omega arith) bound).lowest.below)
+      (rw (those-lowest 32 left more bound, lt-ltb s 32 (low 32 left more bound).lowest.below)
       (go s (ltb (cell_at t state s) n) (keep (has_step t state) (those (has (left - 2 ^ s)) 0 32))))
     where
       go : (s : ℕ) (b : Bool) (l : List ℕ) → printed (map (step_row t names state) (cond (is_some (cond b (some (cell_at t state s)) none)) (s ∷ l) l))
@@ -127,21 +135,13 @@ module _ (n : ℕ) (cells : List ℕ) (names : List (List ℕ)) where
       go s true l = printed-append (step_row t names state s ∷ []) (map (step_row t names state) l)
       go s false l = refl
 
-  -- The lowest signal's line comes first, in the form that code has it: cells are counted from the row's first one.
-  pub steps_next : (state first left s : ℕ) → first ≡ state * 32 → left < 2 ^ 32 → ¬ (left ≡ 0) → state < n → length cells ≡ n * 32 → s ≡ count_trailing_zeros 32 left
-      → (left' : ℕ) → left' ≡ left - 2 ^ count_trailing_zeros 32 left
-      → state_lines n cells names state left ≡ cell_text n state (name_of names s) (get_or cells (first + s) 0) ++ state_lines n cells names state left'
-  steps_next state first left s f bound more k e q left' g =
-      let below : count_trailing_zeros 32 left < 32 = (low 32 left (omega arith) bound).lowest.below in
-      rw (f, q, g, any_default cells (state * 32 + count_trailing_zeros 32 left) 0 65535 (omega arith))
-      (steps-lowest state left bound more)
-
-  pub steps-room : (d₀ : List ℕ) (at₀ : ℕ) (whole d : List ℕ) (at state first left s : ℕ) → Left d₀ at₀ whole d at (state_lines n cells names state left)
-      → at₀ + length whole < 2 ^ 64 → first ≡ state * 32 → left < 2 ^ 32 → ¬ (left ≡ 0) → state < n → length cells ≡ n * 32 → s ≡ count_trailing_zeros 32 left
-      → at + length (cell_text n state (name_of names s) (get_or cells (first + s) 0)) < 2 ^ 64
-  steps-room d₀ at₀ whole d at state first left s l fits f bound more k e q =
-      left-room d₀ at₀ whole d at _ l (cell_text n state (name_of names s) (get_or cells (first + s) 0)) (state_lines n cells names state (left - 2 ^ count_trailing_zeros 32 left))
-      (steps_next state first left s f bound more k e q _ refl) fits
+  -- The next signal's line comes first.
+  pub steps_next : (state left s left' : ℕ) → state < n → length cells ≡ n * 32 → left < 2 ^ 32 → Comes left s left'
+      → state_lines n cells names state left ≡ cell_text n state (name_of names s) (get_or cells (state * 32 + s) 0) ++ state_lines n cells names state left'
+  steps_next state left s left' k e bound step =
+      let below : s < 32 = comes-below left s left' bound step in
+      rw (any_default cells (state * 32 + s) 0 65535 (omega arith))
+      (rw (step.1, step.2) (steps-lowest state left bound step.0))
 
   pub steps-none : (state left : ℕ) → left ≡ 0 → state_lines n cells names state left ≡ []
   unfolding keep printed
@@ -171,10 +171,6 @@ module _ (n : ℕ) (cells : List ℕ) (names : List (List ℕ)) where
       let e : n - s ≡ suc (n - (s + 1)) = omega arith in
       rw (e, add-one s) (printed-append (map (step_row t names s) (enabled_signals t s)) (step_rows t names (suc s) (n - suc s))
       ∙ ap (λ (l : List ℕ). l ++ printed (step_rows t names (suc s) (n - suc s))) (steps_all set known s h))
-
-  pub rows-room : (d₀ : List ℕ) (at₀ : ℕ) (whole d : List ℕ) (at set : ℕ) → Known n cells set → (s : ℕ) → Left d₀ at₀ whole d at (rows_from s)
-      → at₀ + length whole < 2 ^ 64 → s < n → at + length (state_lines n cells names s set) < 2 ^ 64
-  rows-room d₀ at₀ whole d at set known s l fits h = left-room d₀ at₀ whole d at _ l (state_lines n cells names s set) (rows_from (s + 1)) (rows_next set known s h) fits
 
   pub rows_all : step_lines n cells names ≡ rows_from 0
   rows_all = let e : n - 0 ≡ n = omega arith in rw e

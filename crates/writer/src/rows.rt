@@ -1,5 +1,6 @@
 // Puts the lines of a table's text into a buffer: the `table` line, the declarations, the steps. Bytes past the end of the buffer are lost; the place
-// that a function returns is counted on there, so that a buffer of any length serves to measure the text.
+// that a function returns is counted on there, so that a buffer of any length serves to measure the text. Buffer and place are two arguments, as in
+// emit: one value with the lent buffer in it would need a clause more in each contract.
 ghost use Rattle.std.specs.Prelude.{◌≡◌, ◌+◌, ◌^◌, ◌≤◌, ◌<◌, length};
 ghost use Rattle.theory.specs.Table.{declared_set, table};
 ghost use Rattle.theory.specs.Valid.{Valid};
@@ -14,6 +15,7 @@ use text::Role;
 use theory::Automaton;
 
 // Puts the `table` line.
+#[tactic(auto, using(crate::proofs::Lengths::line_lengths))]
 fn table_line(out: &mut [u8], at: usize, name: &[u8], states: usize, initial: usize) -> usize
     requires { at + length (table_text name.now states initial) < 2 ^ 64 }
     ensures value { result ≡ at + length (table_text name.now states initial) }
@@ -29,12 +31,14 @@ fn role_of(a: Automaton, signal: usize) -> Role
     ensures { result ≡ role_of a signal }
 {
     if sets::contains(a.inputs, signal) {
-        return Role::Input;
+        Role::Input
+    } else {
+        Role::Output
     }
-    Role::Output
 }
 
 // Puts the declaration of a signal.
+#[tactic(auto, using(crate::proofs::Lengths::line_lengths))]
 fn signal_line(out: &mut [u8], at: usize, role: Role, name: &[u8]) -> usize
     requires { at + length (signal_text role name.now) < 2 ^ 64 }
     ensures value { result ≡ at + length (signal_text role name.now) }
@@ -53,17 +57,14 @@ fn signal_lines(out: &mut [u8], at: usize, a: Automaton, names: &[&[u8]]) -> usi
     ensures out_after { out.new ≡ stored out.old at (signal_lines (declared_set a) a (texts names.now)) }
 {
     let mut end = at;
-    let mut left = table::declared(a);
-    while left != 0 {
-        let s = sets::lowest(left) as usize;
-        let role = role_of(a, s);
-        end = signal_line(out, end, role, names[s]);
-        left = sets::rest(left);
+    for s in sets::members(table::declared(a)) {
+        end = signal_line(out, end, role_of(a, s), names[s]);
     }
     end
 }
 
 // Puts the line of a cell, if it holds a step.
+#[tactic(auto, using(crate::proofs::Lines::cell_none))]
 fn cell_line(
     out: &mut [u8],
     at: usize,
@@ -86,6 +87,7 @@ fn cell_line(
 }
 
 // Puts the line of a step.
+#[tactic(auto, using(crate::proofs::Lengths::line_lengths))]
 fn step_line(out: &mut [u8], at: usize, from: usize, name: &[u8], to: usize) -> usize
     requires { at + length (step_text from name.now to) < 2 ^ 64 }
     ensures value { result ≡ at + length (step_text from name.now to) }
@@ -114,11 +116,8 @@ fn state_lines(
 {
     let first = state * 32;
     let mut end = at;
-    let mut left = signals;
-    while left != 0 {
-        let s = sets::lowest(left) as usize;
+    for s in sets::members(signals) {
         end = cell_line(out, end, states, state, names, s, cells[first + s]);
-        left = sets::rest(left);
     }
     end
 }

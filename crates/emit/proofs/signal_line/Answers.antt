@@ -6,5 +6,4 @@ pub returns-then-d-at : goal.returns-then-d-at
 returns-then-d-at c = put_beyond _ _ _ c.if-d-at.true
 
 pub returns : goal.returns
-returns c = let a = c.args in
-    signal_put a.role _ _ a.name.now _ _ _ _ c.role_word-word.result.bytes c.role_word-word.result.length c.role_word-word.ensures.bytes_value c.field-i.ensures c.field.ensures
+returns c = signal_put c.args.role _ _ _ _ _ _ _ _ c.role_word.ensures c.field-i.ensures c.field.ensures

@@ -1,18 +1,18 @@
-use Rattle.emit.proofs.Decimal.{width_one, width_two, width_three, width_four, width-five}
+use Rattle.emit.proofs.Decimal.{width-five, width_four, width_one, width_three, width_two}
 use borrow.Author.Rules.{rules}
 use Rattle.emit.proofs.width.Goals as goal
 
-pub returns-then-n-lt10 : goal.returns-then-n-lt10
-returns-then-n-lt10 c = search (width_one, rules)
+pub returns-in-0-to-9 : goal.returns-in-0-to-9
+returns-in-0-to-9 c = search (width_one, rules)
 
-pub returns-then-n-lt100 : goal.returns-then-n-lt100
-returns-then-n-lt100 c = search (width_two, rules)
+pub returns-in-10-to-99 : goal.returns-in-10-to-99
+returns-in-10-to-99 c = search (width_two, rules)
 
-pub returns-then-n-lt1000 : goal.returns-then-n-lt1000
-returns-then-n-lt1000 c = search (width_three, rules)
+pub returns-in-100-to-999 : goal.returns-in-100-to-999
+returns-in-100-to-999 c = search (width_three, rules)
 
-pub returns-then-n-lt10000 : goal.returns-then-n-lt10000
-returns-then-n-lt10000 c = search (width_four, rules)
+pub returns-in-1000-to-9999 : goal.returns-in-1000-to-9999
+returns-in-1000-to-9999 c = search (width_four, rules)
 
-pub returns : goal.returns
-returns c = search (width-five, rules)
+pub returns-in_default : goal.returns-in_default
+returns-in_default c = search (width-five, rules)

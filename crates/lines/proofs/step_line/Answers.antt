@@ -1,49 +1,12 @@
-use native.Mathlib.Omega.{arith}
-use Rattle.lines.proofs.ThreeFields.{ThreeAt, three-at}
-use Rattle.lines.proofs.Judging.{step_other, step-good, step-bad}
+use Rattle.lines.proofs.Judging.{step_bad, step_good, step_other}
 use borrow.Author.Rules.{rules}
 use Rattle.lines.proofs.step_line.Goals as goal
 
 pub returns-in_default : goal.returns-in_default
 returns-in_default c = search (step_other, rules)
 
-pub overflow_add-first : goal.overflow_add-first
-overflow_add-first c =
-    let cut : ThreeAt c.args.rest.now c.in-Three.first c.in-Three.second = three-at _ _ _ _ c.three_fields.ensures c.in-Three.is in
-    omega arith
+pub returns-in_err-from : goal.returns-in_err-from
+returns-in_err-from c = step_bad _ _ _ _ c.three_fields.ensures.value _ _ c.in-Some.is _ c.takes_step.ensures _ c.judge.ensures _ c.in_err-from.was _ c.from_residual.ensures.1
 
-pub part-name-requires : goal.part-name-requires
-part-name-requires c =
-    let cut : ThreeAt c.args.rest.now c.in-Three.first c.in-Three.second = three-at _ _ _ _ c.three_fields.ensures c.in-Three.is in
-    record { from_le_to = omega arith; to_in_bounds = omega arith }
-
-pub overflow_add-second : goal.overflow_add-second
-overflow_add-second c =
-    let cut : ThreeAt c.args.rest.now c.in-Three.first c.in-Three.second = three-at _ _ _ _ c.three_fields.ensures c.in-Three.is in
-    omega arith
-
-pub tail-requires : goal.tail-requires
-tail-requires c =
-    let cut : ThreeAt c.args.rest.now c.in-Three.first c.in-Three.second = three-at _ _ _ _ c.three_fields.ensures c.in-Three.is in
-    omega arith
-
-pub overflow_add-result : goal.overflow_add-result
-overflow_add-result c =
-    let cut : ThreeAt c.args.rest.now c.in-Three.first c.in-Three.second = three-at _ _ _ _ c.three_fields.ensures c.in-Three.is in
-    omega arith
-
-pub overflow_add-result-in-Good : goal.overflow_add-result-in-Good
-overflow_add-result-in-Good c =
-    let cut : ThreeAt c.args.rest.now c.in-Three.first c.in-Three.second = three-at _ _ _ _ c.three_fields.ensures c.in-Three.is in
-    omega arith
-
-pub overflow_add-result-in-Good-2 : goal.overflow_add-result-in-Good-2
-overflow_add-result-in-Good-2 c =
-    let cut : ThreeAt c.args.rest.now c.in-Three.first c.in-Three.second = three-at _ _ _ _ c.three_fields.ensures c.in-Three.is in
-    omega arith
-
-pub returns-in-Good : goal.returns-in-Good
-returns-in-Good c = search (step-good, rules)
-
-pub returns-in-Bad : goal.returns-in-Bad
-returns-in-Bad c = search (step-bad, rules)
+pub returns : goal.returns
+returns c = search (step_good, rules)

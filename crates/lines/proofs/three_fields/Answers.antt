@@ -1,18 +1,19 @@
-use native.Mathlib.Omega.{arith}
-use Rattle.lines.proofs.ThreeFields.{cut-one, cut-two, cut-more, cut-three}
+use mathlib.Core.Path.{◌∙◌}
+use Rattle.lines.proofs.ThreeFields.{cut_one, cut_two, cut_more, cut_three}
 use borrow.Author.Rules.{rules}
 use Rattle.lines.proofs.three_fields.Goals as goal
 
-pub returns-then-s-first : goal.returns-then-s-first
-returns-then-s-first c = search (cut-one, rules)
+pub returns-in_err-first : goal.returns-in_err-first
+returns-in_err-first c = search (cut_one, rules)
 
-pub returns-then-rest-width : goal.returns-then-rest-width
-returns-then-rest-width c = search (cut-two, rules)
+pub returns-in_err-second-clause-value : goal.returns-in_err-second-clause-value
+returns-in_err-second-clause-value c =
+    c.from_residual-in_err-second.ensures ∙ cut_two _ _ c.find.ensures _ c.in_ok-first.was _ c.find-2.ensures c.in_err-second.was
 
-pub returns-then-find-last : goal.returns-then-find-last
-returns-then-find-last c = search (cut-more, rules)
+pub returns-then-contains-clause-value : goal.returns-then-contains-clause-value
+returns-then-contains-clause-value c =
+    cut_more _ _ c.find.ensures _ c.in_ok-first.was _ c.find-2.ensures _ c.in_ok-second.was _ c.contains.ensures.value c.if-contains.true
 
-pub returns : goal.returns
-returns c = cut-three _ _ c.find-first.ensures (omega arith) _ c.tail-rest.ensures _
-    c.find-width.ensures
-    (omega arith) _ c.tail-last.ensures _ c.find.ensures (omega arith)
+pub returns-clause-value : goal.returns-clause-value
+returns-clause-value c =
+    cut_three _ _ c.find.ensures _ c.in_ok-first.was _ c.find-2.ensures _ c.in_ok-second.was _ c.contains.ensures.value c.if-contains.false

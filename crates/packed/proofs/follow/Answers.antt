@@ -2,17 +2,19 @@ use Rattle.packed.proofs.OwnCell.{bytes-refused, bytes-row, bytes-cell, bytes-at
 use borrow.Author.Rules.{rules}
 use Rattle.packed.proofs.follow.Goals as goal
 
+pub returns-in_err-check_position : goal.returns-in_err-check_position
+returns-in_err-check_position c = search (bytes-refused, rules)
+
 pub overflow_mul-state : goal.overflow_mul-state
-overflow_mul-state c = search (bytes-row, rules)
+overflow_mul-state c = let a = c.args in
+    record { fits = bytes-row a.a a.bytes.now a.state a.signal _ c.count.ensures _ c.check_position.ensures _ c.in_ok-check_position.was }
 
 pub overflow_add-state : goal.overflow_add-state
-overflow_add-state c = search (bytes-cell, rules)
+overflow_add-state c = let a = c.args in
+    record { fits = bytes-cell a.a a.bytes.now a.state a.signal _ c.count.ensures _ c.check_position.ensures _ c.in_ok-check_position.was }
 
-pub at-requires : goal.at-requires
-at-requires c = search (bytes-at, rules)
+pub at-cell-requires : goal.at-cell-requires
+at-cell-requires c = let a = c.args in bytes-at a.a a.bytes.now a.state a.signal _ c.count.ensures _ c.check_position.ensures _ c.in_ok-check_position.was
 
-pub returns-in-Refused : goal.returns-in-Refused
-returns-in-Refused c = search (bytes-refused, rules)
-
-pub returns-in-Accepted : goal.returns-in-Accepted
-returns-in-Accepted c = search (bytes-own, rules)
+pub returns : goal.returns
+returns c = bytes-own _ _ _ _ _ c.count.ensures _ c.check_position.ensures _ c.in_ok-check_position.was _ _ c.at-cell.ensures c.advance.ensures

@@ -1,16 +1,16 @@
-use Rattle.report.proofs.Whole.{holds-both, reading-refused, report_made}
+use mathlib.Core.Path.{refl}
+use Rattle.report.proofs.Whole.{reported}
 use Rattle.report.proofs.report.Goals as goal
 
-pub returns-then-read : goal.returns-then-read
-returns-then-read c = let f = c.refusal_line.ensures in
-    let r = c.read_named-read.ensures in
-    reading-refused _ _ _ _ _ _ _ r.value r.names_value r.cm_after r.cp_after c.if-read.true _ _ _ _ _ (record { value = f.value; out_after = f.out_after })
+pub returns-in-Ok : goal.returns-in-Ok
+returns-in-Ok c =
+    let t = c.in-Ok.ensures in
+    let w = reported _ _ _ _ _ _ _ _ _ t.value t.out_after c.in-Ok.end _ (refl, refl) in
+    record { value = w.value; out_after = w.out_after; buffers_after = t.buffers_after; upper_bound = w.upper_bound }
 
-pub make_named-answer-requires : goal.make_named-answer-requires
-make_named-answer-requires c = let s = c.args in
-    let r = c.read_named-read.ensures in
-    holds-both s.cm.now s.cp.now s.m.now s.p.now _ _ _ r.value r.names_value r.cm_after r.cp_after c.if-read.false
-
-pub returns : goal.returns
-returns c = let r = c.read_named-read.ensures in
-    report_made _ _ _ _ _ _ _ r.value r.names_value r.cm_after r.cp_after c.if-read.false _ _ _ _ _ _ _ _ c.make_named-answer.ensures _ _ c.clear_if.ensures c.clear_if-2.ensures
+pub returns-in-Err : goal.returns-in-Err
+returns-in-Err c =
+    let t = c.in-Err.ensures in
+    let f = c.refusal_line.ensures in
+    let w = reported _ _ _ _ _ _ _ _ _ t.value t.out_after _ _ (record { value = f.value; out_after = f.out_after }) in
+    record { value = w.value; out_after = w.out_after; buffers_after = t.buffers_after; upper_bound = w.upper_bound }

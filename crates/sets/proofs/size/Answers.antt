@@ -1,4 +1,4 @@
-use Rattle.sets.proofs.Members.{ones_count}
+use Rattle.sets.proofs.Membership.{ones_count}
 use Rattle.sets.proofs.size.Goals as goal
 
 pub returns : goal.returns

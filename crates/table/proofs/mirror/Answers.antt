@@ -1,9 +1,11 @@
-use Rattle.table.proofs.Replies.{mirror-refused, mirror-made}
+use Rattle.table.specs.Contract.{mirror_reply}
 use Rattle.std.proofs.Common.{rules}
 use Rattle.table.proofs.mirror.Goals as goal
 
-pub returns-in-Refused : goal.returns-in-Refused
-returns-in-Refused c = search (mirror-refused, rules)
+pub returns-in_err-judge : goal.returns-in_err-judge
+unfolding mirror_reply
+returns-in_err-judge c = search rules
 
-pub returns-in-Accepted : goal.returns-in-Accepted
-returns-in-Accepted c = search (mirror-made, rules)
+pub returns : goal.returns
+unfolding mirror_reply
+returns c = search rules

@@ -2,8 +2,8 @@ use Rattle.writer.proofs.Replies.{before-refused, before-accepted}
 use borrow.Author.Rules.{rules}
 use Rattle.writer.proofs.check.Goals as goal
 
-pub returns-in_default : goal.returns-in_default
-returns-in_default c = search (before-refused, rules)
+pub returns-in_err-judge : goal.returns-in_err-judge
+returns-in_err-judge c = search (before-refused, rules)
 
 pub returns : goal.returns
 returns c = search (before-accepted, rules)

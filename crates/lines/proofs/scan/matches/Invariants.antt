@@ -7,6 +7,3 @@ use Rattle.lines.proofs.scan.matches.Given as goal
 
 abbrev pub invariant-loop-i : goal.invariant-loop-i
 invariant-loop-i l = (l.i ≤ length l.a) × (length l.a ≡ length l.b) × (matches l.spelling (drop l.i l.a) (drop l.i l.b) ≡ true)
-
-abbrev pub decreases-loop-i : goal.decreases-loop-i
-decreases-loop-i l = l.i

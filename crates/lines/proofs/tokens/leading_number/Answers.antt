@@ -1,18 +1,15 @@
-use Rattle.lines.proofs.NumberRule.{digits_low, digits-high, digits-end, digits-on, number_big}
+use Rattle.lines.proofs.NumberRule.{digits_end, digits_on, digits_stop, number_big}
 use borrow.Author.Rules.{rules}
 use Rattle.lines.proofs.tokens.leading_number.Goals as goal
 
 pub by_width-requires : goal.by_width-requires
-by_width-requires c = search (digits_low, rules)
-
-pub by_width-requires-then-x-gt57 : goal.by_width-requires-then-x-gt57
-by_width-requires-then-x-gt57 c = search (digits-high, rules)
+by_width-requires c = search (digits_stop, rules)
 
 pub returns-then-value-gt65535 : goal.returns-then-value-gt65535
 returns-then-value-gt65535 c = search (number_big, rules)
 
 pub loop-i-preserved : goal.loop-i-preserved
-loop-i-preserved c = search (digits-on, rules)
+loop-i-preserved c = search (digits_on, rules)
 
 pub by_width-requires-2 : goal.by_width-requires-2
-by_width-requires-2 c = search (digits-end, rules)
+by_width-requires-2 c = search (digits_end, rules)

@@ -1,15 +1,15 @@
-use Rattle.lines.proofs.NameRule.{letters_on, width-stop, width-long, width-end}
+use Rattle.lines.proofs.NameRule.{letters_on, width_stop, width_end}
+use native.Mathlib.Omega.{arith}
 use borrow.Author.Rules.{rules}
 use Rattle.lines.proofs.tokens.name_width.Goals as goal
 
 pub returns-then-not-is_name_byte : goal.returns-then-not-is_name_byte
-returns-then-not-is_name_byte c = search (width-stop, rules)
+returns-then-not-is_name_byte c =
+    let w = width_stop _ _ _ c.loop-i.invariant _ c.loop-i-test.true c.is_name_byte.ensures c.if-not-is_name_byte.true in
+    search (rules, w)
 
 pub loop-i-preserved : goal.loop-i-preserved
 loop-i-preserved c = search (letters_on, rules)
 
-pub returns-then-end-gt16 : goal.returns-then-end-gt16
-returns-then-end-gt16 c = search (width-long, rules)
-
 pub returns : goal.returns
-returns c = search (width-end, rules)
+returns c = let w = width_end _ _ _ c.loop-i.invariant (omega arith) in search (rules, w)

@@ -2,13 +2,11 @@ use mathlib.Core.Bool.{not}
 use Prim.Native.Nat.{ℕ}
 use Rattle.text.specs.Fields.{name_ok}
 use Rattle.text.specs.Writing.{name_of}
+use Rattle.sets.specs.Steps.{set_left}
 use Rattle.sets.proofs.Visit.{Visit}
 use Rattle.names.specs.LentNames.{texts}
 use Rattle.names.proofs.LentNames.{None}
 use Rattle.names.proofs.lent.is_misnamed.Given as goal
 
-abbrev pub invariant-loop-left : goal.invariant-loop-left
-invariant-loop-left l = Visit l.signals l.left (None (λ (a : ℕ). not (name_ok (name_of (texts l.names) a))))
-
-abbrev pub decreases-loop-left : goal.decreases-loop-left
-decreases-loop-left l = l.left
+abbrev pub invariant-loop-s : goal.invariant-loop-s
+invariant-loop-s l = Visit l.signals (set_left l.s-iterator) (None (λ (a : ℕ). not (name_ok (name_of (texts l.names) a))))

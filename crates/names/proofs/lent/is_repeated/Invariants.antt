@@ -1,10 +1,8 @@
+use Rattle.sets.specs.Steps.{set_left}
 use Rattle.sets.proofs.Visit.{Visit}
 use Rattle.names.specs.LentNames.{texts}
 use Rattle.names.proofs.LentNames.{Apart}
 use Rattle.names.proofs.lent.is_repeated.Given as goal
 
-abbrev pub invariant-loop-left : goal.invariant-loop-left
-invariant-loop-left l = Visit l.signals l.left (Apart l.spelling (texts l.names) l.signals)
-
-abbrev pub decreases-loop-left : goal.decreases-loop-left
-decreases-loop-left l = l.left
+abbrev pub invariant-loop-s : goal.invariant-loop-s
+invariant-loop-s l = Visit l.signals (set_left l.s-iterator) (Apart l.spelling (texts l.names) l.signals l.before)

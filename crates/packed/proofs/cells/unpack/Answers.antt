@@ -7,5 +7,4 @@ pub at-requires : goal.at-requires
 at-requires c = search (cell-held, rules)
 
 pub returns : goal.returns
-returns c = let l = c.loop-k in
-    record { room_after = cells-written _ _ l.room _ l.invariant.1 (omega arith) (λ j h. l.invariant.4 j (omega arith)); upper_bound = omega arith }
+returns c = cells-written _ _ _ c.loop-k.invariant.0 (λ j h. c.loop-k.invariant.1 j (omega arith))

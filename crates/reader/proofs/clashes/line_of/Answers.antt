@@ -1,10 +1,8 @@
-use native.Mathlib.Omega.{arith}
-use Rattle.reader.proofs.Rows.{line-next, line-done}
-use borrow.Author.Rules.{rules}
+use Rattle.std.proofs.Common.{◌+◌, ◌==◌, count_by, ◌∙◌, sym, ap}
+use Rattle.text.specs.Clashes.{line_of}
+use Rattle.reader.proofs.Rows.{lines-count}
 use Rattle.reader.proofs.clashes.line_of.Goals as goal
 
-pub loop-i-preserved : goal.loop-i-preserved
-loop-i-preserved c = (omega arith, omega arith, search (line-next, rules))
-
 pub returns : goal.returns
-returns c = search (line-done, rules)
+unfolding line_of
+returns c = ap (λ n. n + 1) (c.ends.ensures ∙ ap (count_by (λ x. x == 10)) c.before-2.ensures.result_value) ∙ sym (lines-count _)

@@ -6,4 +6,4 @@ pub loop-i-init : goal.loop-i-init
 loop-i-init c = search (visit_start, rules)
 
 pub returns : goal.returns
-returns c = search (visit_done, rules)
+returns c = visit_done _ _ c.args.signals c.requires c.loop-i.i c.loop-i.auto.i-end c.loop-i-test.false c.loop-i.clashes c.loop-i.invariant

@@ -1,8 +1,8 @@
 use Rattle.reader.proofs.Entering.{enter-table, declaration-entry, enter-declaration, enter_step}
 use Rattle.reader.proofs.entries.enter.Goals as goal
 
-pub declare-requires : goal.declare-requires
-declare-requires c = record { fit = c.requires.sound.fit; entry = declaration-entry _ _ _ _ _ c.args.st _ c.requires.says _ c.in-Declaration.is _ c.name_start-start.ensures _ c.after-name.ensures.result_value _ c.entry-entry.ensures }
+pub declare-requires-clause-entry : goal.declare-requires-clause-entry
+declare-requires-clause-entry c = declaration-entry _ _ _ _ _ c.args.st _ c.requires.says _ c.in-Declaration.is _ c.name_start-start.ensures _ c.after-name.ensures.result_value _ c.entry-entry.ensures
 
 pub returns-in-Table : goal.returns-in-Table
 returns-in-Table c = enter-table _ _ _ _ _ c.args.st _ c.requires.says _ _ _ _ c.in-Table.is c.requires.sound _ c.start.ensures

@@ -4,13 +4,13 @@ use Rattle.table.proofs.PairChecks.{few-first, few-second}
 use Rattle.std.proofs.Common.{rules}
 use Rattle.table.proofs.checks.check_refinement.Goals as goal
 
-pub returns-in_default : goal.returns-in_default
+pub returns-in_err-check_each : goal.returns-in_err-check_each
 unfolding refinement_checks
-returns-in_default c = search (stopped, rules)
+returns-in_err-check_each c = stopped _ _ _ c.check_each.ensures _ c.in_err-check_each.was _ (search rules)
 
 pub check_sizes-requires : goal.check_sizes-requires
 check_sizes-requires c = search (few-first, few-second, rules)
 
 pub returns : goal.returns
 unfolding refinement_checks size_checks
-returns c = search (went_on, rules)
+returns c = went_on _ _ _ c.check_each.ensures _ c.in_ok-check_each.was _ c.check_sizes.ensures

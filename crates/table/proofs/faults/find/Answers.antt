@@ -6,8 +6,8 @@ pub loop-check-init : goal.loop-check-init
 loop-check-init c = (omega arith, omega arith, sound-start _ _ _, passed_start _ _ _)
 
 pub returns-then-walked-rows : goal.returns-then-walked-rows
-returns-then-walked-rows c = find-fault _ _ _ _ c.walk-walked.result (omega arith) (omega arith)
-    c.loop-check.invariant.3 c.walk-walked.ensures (omega arith)
+returns-then-walked-rows c = rw c.rule_of.ensures (find-fault _ _ _ _ c.walk-walked.result (omega arith) (omega arith)
+    c.loop-check.invariant.3 c.walk-walked.ensures (omega arith))
 
 pub loop-check-preserved : goal.loop-check-preserved
 loop-check-preserved c = (

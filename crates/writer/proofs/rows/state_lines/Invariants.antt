@@ -1,13 +1,11 @@
-use mathlib.Core.Path.{◌≡◌}
-use Prim.Native.Nat.{◌*◌, ◌^◌, ◌<◌}
-use Rattle.writer.proofs.Counted.{Left}
+use Prim.Native.Nat.{◌^◌, ◌<◌}
+use Rattle.sets.specs.Steps.{set_left}
 use Rattle.names.specs.LentNames.{texts}
 use Rattle.writer.specs.Rows.{state_lines}
+use Rattle.writer.proofs.Counted.{Left}
 use Rattle.writer.proofs.rows.state_lines.Given as goal
 
-abbrev pub invariant-loop-left : goal.invariant-loop-left
-invariant-loop-left l = (l.left < 2 ^ 32) × (l.first ≡ l.state * 32)
-    × Left l.initial.out l.at (state_lines l.states l.cells (texts l.names) l.state l.signals) l.out l.end (state_lines l.states l.cells (texts l.names) l.state l.left)
-
-abbrev pub decreases-loop-left : goal.decreases-loop-left
-decreases-loop-left l = l.left
+-- What is put, and the lines of the signals to come, are all lines of the state.
+abbrev pub invariant-loop-s : goal.invariant-loop-s
+invariant-loop-s l = let left = set_left l.s-iterator in
+    (left < 2 ^ 32) × Left l.initial.out l.at (state_lines l.states l.cells (texts l.names) l.state l.signals) l.out l.end (state_lines l.states l.cells (texts l.names) l.state left)
