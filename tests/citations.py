@@ -9,6 +9,8 @@ import glob
 import os
 import re
 
+import functions
+
 CITATION = re.compile(r"`([\w/.-]+)`(?:: ((?:`[^`]+`(?:, (?=`))?)+))?")
 DECLARED = {
     ".antt": re.compile(r"(?m)^\s*(?:unfoldable |abbrev )*(?:pub )?(?:data |record )?(\S+)(?: [({].*)? :"),
@@ -20,8 +22,11 @@ PARTS = {"src": ".rt", "specs": ".antt", "proofs": ".antt"}
 
 @functools.lru_cache(maxsize=None)
 def declared_in(path):
-    """The names that a source of a crate declares; a mention or a comment does not count."""
-    return set(DECLARED[os.path.splitext(path)[1]].findall(open(path, encoding="utf-8").read()))
+    """The names that a source of a crate declares; a mention or a comment does not count. A method has its own, that behind its type's, and the prover's."""
+    text, extension = open(path, encoding="utf-8").read(), os.path.splitext(path)[1]
+    methods = [function for function in functions.in_text(text) if function.kind] if extension == ".rt" else []
+    behind_types = (f"{function.kind}::{function.name.split('::')[-1]}" for function in methods)
+    return {*DECLARED[extension].findall(text), *behind_types, *(function.name for function in methods)}
 
 
 @functools.lru_cache(maxsize=None)

@@ -84,11 +84,20 @@ def cited_by(crate, fails):
         yield (place, re.findall(r"`([^`]+)`", names)) if names or looks_like_a_path(place) else (crate, [place])
 
 
+def functions_called(crate, place, name):
+    """The functions of the crate that a name of a `fails:` line stands for: several where it is that of methods of more than one type, and the name itself
+    where the code has it for something else."""
+    for path in where(place, name):
+        if path.startswith(f"crates/{crate}/src/"):
+            text = open(path, encoding="utf-8").read()
+            yield from [function.name for function in functions.in_text(text) if function.is_called(name)] or [name]
+
+
 def broken_by(crate, program):
     """The functions of the crate whose contracts fail by what a wrong program says: the one that it changes, and those that it names."""
-    changed = [program.function.split("::")[-1]] if program.function else []
+    changed = [re.sub(r"^[a-z]\w*::", "", program.function)] if program.function else []
     named = [(place, name) for place, names in named_by(crate, program.fails) for name in names]
-    return changed + [name for place, name in named if any(path.startswith(f"crates/{crate}/src/") for path in where(place, name))]
+    return changed + [function for place, name in named for function in functions_called(crate, place, name)]
 
 
 def check_program(crate, program, known, faults):
@@ -102,6 +111,8 @@ def check_program(crate, program, known, faults):
     for place, names in named_by(crate, program.fails):
         defined = [one for one in names if any("/specs/" in path for path in where(place, one))]
         faults.extend(f"{name}: {one} is a definition, which cannot fail" for one in defined)
+        several = [one for one in names if len(set(functions_called(crate, place, one))) > 1]
+        faults.extend(f"{name}: {one} is the name of several functions, and it is not said of which type" for one in several)
     if program.function:
         changed, *others = broken_by(crate, program)
         runs = functions.stands_on(crate)

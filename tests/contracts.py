@@ -5,7 +5,10 @@ of a buffer at exit; of a part that it returns, the bytes and the place are. And
 library is given another meaning in specs/. The exit status says so. tests/contracts_test.py feeds it contracts that are wrong.
 
 In a clause `result` is what is returned; `x.old` and `x.new` are what stands in a `&mut` at entry and at exit, `x.now` is what stands behind a `&`, and
-`x.entry.ref_ptr` the place of either at entry.
+`x.entry.ref_ptr` the place of either at entry. A method counts as what it would be if it stood alone. What a function of a trait promises is a relation
+that stands beside it in the `impl`, of its parameters, its result, and what it is lent as it is at exit: equations, or the name of a relation of which a
+law of the crate (proofs/) says by a `↔`, without a premise, that it is equations. So `next` of the iterator over a set's members gives `member_steps`,
+and the law `steps-are` says what that fixes: the result, and all that the iterator holds.
 
 The one contract of another form is named below, with the words that stand for the equation: what these say has to be read."""
 import glob
@@ -26,6 +29,8 @@ OTHERWISE = {
 # A clause, named or not, of which further lines are set in; behind the last one the brace of the body follows.
 CLAUSE = re.compile(r"ensures(?: \w+)? \{ ((?:[^\n]|\n {5})*) \}(?:\n\{)?")
 RESULT = "result"
+# What a method is called on, in its parameters: by value or behind a `&`.
+SELF = re.compile(r"\((?:(&(?:'\w+ )?(?:mut )?)|mut )?self\b")
 DECLARED = re.compile(r"( *)(?:unfoldable |abbrev )*(?:pub )?(data |record )?(\S+)(?: [({].*)? :")
 OPEN, SHUT = "([{⟦", ")]}⟧"
 # What makes an equation a part of a weaker statement: a premise, a choice, a quantifier.
@@ -80,13 +85,46 @@ def parameters(signature):
     """The parameters of a function, each name with its type."""
     opened = signature.index("(")
     depths = [signature[opened : k + 1].count("(") - signature[opened : k + 1].count(")") for k in range(opened, len(signature))]
-    listed = signature[opened + 1 : opened + depths.index(0)]
-    return [tuple(part.split(": ", 1)) for part in parts(listed, ",") if part]
+    listed = signature[opened + 1 : opened + depths.index(0)].strip()
+    return [tuple(part.split(": ", 1)) for part in re.split(r",\s*(?=\w[\w ]*: |$)", listed) if part]
 
 
 def is_lent(kind):
     """Whether a parameter of this type may be written to."""
     return re.search(r"\bmut\b", kind) is not None
+
+
+def applied(relation, words):
+    """What a relation says of the words: where it is a `λ` of as many names, they stand in the places of these; no name in `«»` is looked for."""
+    said = re.fullmatch(r"(?s)λ ((?:[\w-]+ )*[\w-]+)\. ([^«]*)", relation)
+    if said is None or len(said[1].split()) != len(words):
+        return " ".join([relation, *words])
+    named = dict(zip(said[1].split(), words))
+    return re.sub(r"(?<![\w.-])[^\W\d_][\w-]*", lambda name: named.get(name[0], name[0]), said[2])
+
+
+def by_law(relation, laws):
+    """What a relation is by a law that holds of all its words; the relation itself where there is no such law."""
+    said = re.search(rf"(?m)^pub \S+ : ((?:\([\w ]+ : [^()→]+\) ?)+)\s*→ {re.escape(relation)} ([\w ]+) ↔ (.*)$(?!\n )", laws)
+    bound = " ".join(re.findall(r"\(([\w ]+) :", said[1])).split() if said else None
+    return f"λ {said[2]}. {bare(said[3])}" if said and sorted(bound) == sorted(said[2].split()) else relation
+
+
+def in_full(function, laws):
+    """The head of a function with all of its contract: a method has the type of what it is called on, and one of a trait, as a clause, what it gives, by
+    the crate's laws where these say more."""
+    head = SELF.sub(lambda said: f"(self: {said[1] or ''}{function.kind}", function.head, count=1)
+    if function.trait is None:
+        return head
+    own = function.name.split("::")[-1]
+    signature, *clauses = re.split(r"\n    (?=ensures|requires)\b", head.removesuffix(" {").removesuffix("\n{"))
+    takes = parameters(signature)
+    words = [name + (".old" if is_lent(kind) else ".now" if "&" in kind else "") for name, kind in takes]
+    words += [RESULT] * ("->" in signature) + [f"{name}.new" for name, kind in takes if is_lent(kind)]
+    relation = re.search(rf"(?s)\n    ghost {own}_gives = \{{ (.*?) \}};\n", function.block)
+    asked = [clause for clause in clauses if clause.startswith("requires")]
+    given = [f"ensures {{ {applied(by_law(relation[1], laws), words)} }}"] if relation else []
+    return "\n    ".join([signature, *asked, *given]) + "\n{"
 
 
 def is_free(right, references):
@@ -176,17 +214,33 @@ def second_meanings(files):
         yield from (f"{path}: declares the operator {name}" for name in names if "◌" in name)
 
 
+def laws_of(crate):
+    """The laws of a crate: those of the files that its proofs/Lib.antt names, since the prover looks at no other."""
+    root = f"crates/{crate}/proofs/Lib.antt"
+    names = re.findall(r"(?m)^(?:pub )?mod (\w+)$", open(root, encoding="utf-8").read()) if os.path.exists(root) else []
+    return "".join(open(f"crates/{crate}/proofs/{name}.antt", encoding="utf-8").read() for name in names)
+
+
+def looked_at(crate, faults):
+    """The functions of a crate that can be called from outside, each by its name; what is wrong with their contracts is told."""
+    names, fields = functions.public(crate, faults), fields_in(crate)
+    laws = laws_of(crate)
+    found = [function for _, function in functions.of_crate(crate) if function.name in names]
+    for function in found:
+        why = list(faults_of(in_full(function, laws), OTHERWISE.get((crate, function.name)), fields))
+        if function.trait and re.search(r"\n    ensures\b", function.head):
+            why.append("has clauses of its own in place of its trait's")
+        faults.extend(f"crates/{crate}: {function.name} {fault}" for fault in why)
+    return [function.name for function in found]
+
+
 def main():
     os.chdir(TOP)
     count, faults, unmet = 0, [], set(OTHERWISE)
     for crate in sorted(os.listdir("crates")):
-        names, fields = functions.public(crate, faults), fields_in(crate)
-        for _, function in functions.of_crate(crate):
-            if function.name in names:
-                count += 1
-                unmet.discard((crate, function.name))
-                why = faults_of(function.head, OTHERWISE.get((crate, function.name)), fields)
-                faults.extend(f"crates/{crate}: {function.name} {fault}" for fault in why)
+        found = looked_at(crate, faults)
+        count += len(found)
+        unmet -= {(crate, name) for name in found}
     faults.extend(f"tests/contracts.py: names {crate}::{name}, which is not there" for crate, name in sorted(unmet))
     paths = glob.glob("crates/*/specs/*.antt") + glob.glob("crates/*/src/*.rt")
     faults.extend(second_meanings({path: open(path, encoding="utf-8").read() for path in paths}))

@@ -11,12 +11,14 @@ ghost use Rattle.emit.specs.Rows.{table_text, signal_text, step_text};
 
 use text::Role;
 
-// Copies the bytes of s, for which there is room.
+// Copies the bytes of s, for which there is room. A loop, since `copy_from_slice` would need `memmove` from outside.
 fn copy(d: &mut [u8], at: usize, s: &[u8])
     requires { at + length s.now ≤ length d.old }
     ensures { d.new ≡ stored d.old at s.now }
 {
-    d[at..at + s.len()].copy_from_slice(s);
+    for i in 0..s.len() {
+        d[at + i] = s[i];
+    }
 }
 
 // Puts the bytes of s.

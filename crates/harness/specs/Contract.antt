@@ -1,7 +1,7 @@
 -- The one reply record, from the library's replies: every field in every case.
 use Rattle.std.specs.Prelude.{ℕ, Bool, true, false, List, length, Option, Some, None, Result, Ok, Err}
 use Rattle.theory.specs.declared.Automaton.{Automaton}
-use Rattle.theory.specs.declared.Refusal.{Refusal}
+use Rattle.theory.specs.Refusals.{Refusal}
 use Rattle.theory.specs.Table.{header}
 use Rattle.table.specs.declared.Status.{Status}
 use Rattle.table.specs.Statuses.{status_nowhere, status_of, accepted_status}

@@ -191,7 +191,9 @@ fn parse_line(line: &[u8], place: Place) -> Result<Record, Rule>
     }
 }
 
-// Takes apart the first line of s, of whatever kind: looks for its LF first, then for its fields.
+// Takes apart the first line of s, of whatever kind: looks for its LF first, then for its fields. Not inlined: its code within `parse` would take registers
+// from the loops around it.
+#[inline(never)]
 fn parse_any(s: &[u8], place: Place) -> Result<Line, Rule>
     ensures { result ≡ first_line place s.now }
 {

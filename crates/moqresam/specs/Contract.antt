@@ -1,12 +1,12 @@
 -- The replies of the C calls, from the library's: every field in every case.
 use Rattle.std.specs.Prelude.{ℕ, Bool, true, false, Option, Some, None, Result, Ok, Err}
-use Rattle.theory.specs.declared.Refusal.{Refusal}
+use Rattle.theory.specs.Refusals.{Refusal}
 use Rattle.table.specs.declared.Status.{Status}
 use Rattle.table.specs.Statuses.{status_of, accepted_status}
 use Rattle.compatibility.specs.declared.Compatibility.{Compatibility}
-use Rattle.moqresam.specs.declared.replies.FitReply.{FitReply}
-use Rattle.moqresam.specs.declared.replies.RefineReply.{RefineReply}
-use Rattle.moqresam.specs.declared.replies.FollowReply.{FollowReply}
+use Rattle.moqresam.specs.declared.FitReply.{FitReply}
+use Rattle.moqresam.specs.declared.RefineReply.{RefineReply}
+use Rattle.moqresam.specs.declared.FollowReply.{FollowReply}
 
 -- The fields of a reply, from the status, the verdict and the rounds.
 abbrev pub fit_with : Status → Bool → ℕ → FitReply

@@ -1,13 +1,13 @@
 -- What a C caller may conclude from the last fields of a reply, whatever it lent (02, S-2).
 use Rattle.std.specs.Prelude.{◌≡◌, ◌↔◌, cond, ◌≤◌, T, None}
-use Rattle.theory.specs.declared.Refusal.{Refusal}
+use Rattle.theory.specs.Refusals.{Refusal}
 use Rattle.theory.specs.declared.Rule.{Rule}
 use Rattle.theory.specs.Rules.{rule_number}
 use Rattle.theory.specs.Checks.{refusal, at_cell}
 use Rattle.table.specs.declared.Status.{Status}
-use Rattle.moqresam.specs.declared.replies.FitReply.{FitReply}
-use Rattle.moqresam.specs.declared.replies.RefineReply.{RefineReply}
-use Rattle.moqresam.specs.declared.replies.FollowReply.{FollowReply}
+use Rattle.moqresam.specs.declared.FitReply.{FitReply}
+use Rattle.moqresam.specs.declared.RefineReply.{RefineReply}
+use Rattle.moqresam.specs.declared.FollowReply.{FollowReply}
 
 -- What a reply says of a refusal, and the refusal by a rule that it tells.
 abbrev pub of_fit : FitReply → Status

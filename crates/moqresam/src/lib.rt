@@ -10,9 +10,48 @@ ghost use Rattle.refinement.specs.Contract.{refinement_reply, refinement_marks};
 ghost use Rattle.packed.specs.Bytes.{table_of_bytes};
 ghost use Rattle.moqresam.specs.Contract.{fit_reply, refine_reply, monitor_reply, state_after};
 
-use replies::{FitReply, FollowReply, RefineReply};
-
 mod replies;
+
+// Reply of `moqresam_fit`: the number of the refusal and the table at fault, both 0 if nothing is refused; the verdict; how many rounds drop a
+// pair; whether the refusal names a cell, and the state and signal of that cell, 0 if it names none.
+#[repr(C)]
+#[derive(Clone, Copy)]
+pub struct FitReply {
+    pub number: u32,
+    pub table: u32,
+    pub compatible: bool,
+    pub rounds: usize,
+    pub placed: bool,
+    pub cell_state: usize,
+    pub cell_signal: usize,
+}
+
+// Reply of `moqresam_refine`: the number of the refusal and the table at fault, both 0 if nothing is refused; the verdict; whether the refusal
+// names a cell, and the state and signal of that cell, 0 if it names none.
+#[repr(C)]
+#[derive(Clone, Copy)]
+pub struct RefineReply {
+    pub number: u32,
+    pub table: u32,
+    pub refines: bool,
+    pub placed: bool,
+    pub cell_state: usize,
+    pub cell_signal: usize,
+}
+
+// Reply of the follower: the number of the refusal and the table at fault, both 0 if nothing is refused; whether it moved, and the state that it is
+// in now; whether the refusal names a cell, and the state and signal of that cell, 0 if it names none.
+#[repr(C)]
+#[derive(Clone, Copy)]
+pub struct FollowReply {
+    pub number: u32,
+    pub table: u32,
+    pub moved: bool,
+    pub state: usize,
+    pub placed: bool,
+    pub cell_state: usize,
+    pub cell_signal: usize,
+}
 
 // Record of a follower, which the caller lends: its state.
 #[repr(C)]

@@ -1,52 +1,12 @@
-// The records that C is given: the library's replies, in plain numbers. C has no Option and no Result, so each has a number of 0 where nothing is
+// Makes the records that C is given: the library's replies, in plain numbers. C has no Option and no Result, so each has a number of 0 where nothing is
 // refused, and a flag beside what may be missing.
 ghost use Rattle.std.specs.Prelude.{◌≡◌};
 ghost use Rattle.moqresam.specs.Contract.{fit_with, refine_with, follow_with, fit_reply, refine_reply, monitor_reply};
 
+use crate::{FitReply, FollowReply, RefineReply};
 use compatibility::Compatibility;
 use table::Status;
 use theory::Refusal;
-
-// Reply of `moqresam_fit`: the number of the refusal and the table at fault, both 0 if nothing is refused; the verdict; how many rounds drop a
-// pair; whether the refusal names a cell, and the state and signal of that cell, 0 if it names none.
-#[repr(C)]
-#[derive(Clone, Copy)]
-pub struct FitReply {
-    pub number: u32,
-    pub table: u32,
-    pub compatible: bool,
-    pub rounds: usize,
-    pub placed: bool,
-    pub cell_state: usize,
-    pub cell_signal: usize,
-}
-
-// Reply of `moqresam_refine`: the number of the refusal and the table at fault, both 0 if nothing is refused; the verdict; whether the refusal
-// names a cell, and the state and signal of that cell, 0 if it names none.
-#[repr(C)]
-#[derive(Clone, Copy)]
-pub struct RefineReply {
-    pub number: u32,
-    pub table: u32,
-    pub refines: bool,
-    pub placed: bool,
-    pub cell_state: usize,
-    pub cell_signal: usize,
-}
-
-// Reply of the follower: the number of the refusal and the table at fault, both 0 if nothing is refused; whether it moved, and the state that it is
-// in now; whether the refusal names a cell, and the state and signal of that cell, 0 if it names none.
-#[repr(C)]
-#[derive(Clone, Copy)]
-pub struct FollowReply {
-    pub number: u32,
-    pub table: u32,
-    pub moved: bool,
-    pub state: usize,
-    pub placed: bool,
-    pub cell_state: usize,
-    pub cell_signal: usize,
-}
 
 // Makes a reply of fit; the status says whether it is refused, and where.
 fn fit_with(s: Status, compatible: bool, rounds: usize) -> FitReply

@@ -9,7 +9,7 @@ use borrow.Author.Tests.{not-false}
 use Rattle.theory.proofs.Tests.{is_false}
 use Rattle.theory.specs.declared.Automaton.{Automaton}
 use Rattle.std.specs.Prelude.{Ok, Err, None}
-use Rattle.theory.specs.declared.Refusal.{Refusal}
+use Rattle.theory.specs.Refusals.{Refusal}
 use Rattle.theory.specs.Sets.{has}
 use Rattle.theory.specs.Table.{declared_set, Table, table}
 use Rattle.theory.specs.Checks.{first, refusal, declared}

@@ -1,28 +1,27 @@
 -- The questions about names, as loops over a set answer them.
 use mathlib.Core.Path.{◌≡◌, refl, sym, ap, subst, ◌∙◌}
 use mathlib.Core.Logic.{inl, inr}
-use mathlib.Core.Bool.{Bool, true, false, not, ◌&&◌, ◌||◌, cond}
+use mathlib.Core.Bool.{Bool, true, false, not, ◌&&◌}
 use mathlib.Core.List.{List, [], ◌∷◌}
 use Prim.Native.Nat.{ℕ, zero, suc, ◌^◌, ◌≤◌, ◌<◌}
 use native.Mathlib.Omega.{arith}
 use native.Mathlib.Decide.{dec_lt}
 use denote.Ref.{Bor}
-use lib.Bits.{bit_or}
-use lib.Dec.{T, eqb, ltb}
+use lib.Dec.{T}
 use lib.ListN.{length, get_or, length-map, get_or-eq_default}
-use borrow.Author.Tests.{not-false, lt-ltb}
+use borrow.Author.Tests.{not-false}
 use Rattle.theory.specs.Bounded.{any}
 use Rattle.theory.specs.Sets.{has}
 use Rattle.theory.proofs.Bounded.{any_at, at-any}
 use Rattle.theory.proofs.Tests.{is_false, is_true, and_left, and_right, and_both}
-use Rattle.sets.proofs.Membership.{has_insert}
-use Rattle.sets.proofs.Visit.{Turn, turn_cases}
+use Rattle.theory.proofs.Sets.{has-lt}
+use Rattle.sets.proofs.Visit.{Turn, turn_cases, turn-above}
 use Rattle.lines.proofs.NameRule.{name-short}
 use Rattle.text.specs.declared.Spelling.{Spelling}
 use Rattle.text.specs.declared.Spelling.TheVariants.{Exact, Folded}
 use Rattle.text.specs.Fields.{matches, name_ok}
 use Rattle.text.specs.Writing.{name_of}
-use Rattle.text.proofs.Names.{match_sym, same-match}
+use Rattle.text.proofs.Names.{same-match}
 use Rattle.names.specs.LentNames.{texts, any_of, repeated, Named}
 
 -- ---- the lent names
@@ -134,43 +133,36 @@ module _ (c : Spelling) (names : List (List ℕ)) where
         match = and_right (has set a && has set b) (alike a b) v;
       }
 
-  -- The members visited are those before, and no two names of theirs match.
-  pub record Apart (set before visited : ℕ) : Type 0 where
-    pub same : (b : ℕ) → has before b ≡ has visited b
-    pub within : (b : ℕ) → T (has visited b) → T (has set b)
-    pub apart : (a b : ℕ) → T (has visited a) → T (has visited b) → b < a → ¬ T (alike a b)
+  -- No name of a member visited matches that of a higher member.
+  pub record Apart (set visited : ℕ) : Type 0 where
+    pub apart : (a b : ℕ) → T (has visited b) → T (has set a) → b < a → ¬ T (alike a b)
 
-  pub apart-end : (set before : ℕ) → Apart set before set → false ≡ repeated c set names
-  apart-end set before n = sym (is_false (repeated c set names) (λ h. let p = find set h in n.apart p.a p.b p.first p.second p.below p.match))
+  pub apart-end : (set : ℕ) → Apart set set → false ≡ repeated c set names
+  apart-end set n = sym (is_false (repeated c set names) (λ h. let p = find set h in n.apart p.a p.b p.second p.first p.below p.match))
 
-  -- The name of one more member is held against those before it.
-  module _ {set before visited s visited' left' : ℕ} (t : Turn set visited s visited' left') (n : Apart set before visited) (name : List ℕ) (named : name ≡ name_of names s) (r : Bool)
-      (taken : r ≡ any_of before (λ (a : ℕ). matches c (name_of names a) name)) where
-    pub apart-turn : r ≡ false → (more : ℕ) → more ≡ cond (ltb s 32) (bit_or before (2 ^ s)) before → Apart set more visited'
+  -- The name of one more member is held against those above it.
+  module _ {set visited s visited' left' : ℕ} (bound : set < 2 ^ 32) (t : Turn set visited s visited' left') (name : List ℕ) (named : name ≡ name_of names s) (r : Bool)
+      (taken : r ≡ any_of left' (λ (a : ℕ). matches c (name_of names a) name)) where
+    pub apart-turn : r ≡ false → Apart set visited → Apart set visited'
     unfolding any_of
-    apart-turn e more f = record {
-      same = λ b. ap (λ x. has x b) (f ∙ ap (λ v. cond v (bit_or before (2 ^ s)) before) (lt-ltb s 32 t.below)) ∙ has_insert before s b ∙ ap (λ v. v || eqb b s) (n.same b) ∙ sym (t.grown b);
-      within = λ b h. elim (turn_cases t b h) [ inl v ↦ n.within b v | inr q ↦ rw q t.member ];
-      apart = λ a b h k l x. elim (turn_cases t a h) [
-        | inl v ↦ elim (turn_cases t b k) [ inl w ↦ n.apart a b v w l x | inr q ↦ omega (arith, t.lower a v) ]
-        | inr p ↦ elim (turn_cases t b k) [
-          | inl w ↦
-              let y : T (matches c (name_of names b) name) = subst T (match_sym c (name_of names a) (name_of names b) ∙ rw (named, p)) x in
-              subst T (sym taken ∙ e)
-              (at-any 32 (λ a. has before a && matches c (name_of names a) name) b (omega (arith, t.lower b w, t.below))
-              (and_both (has before b) (matches c (name_of names b) name) (subst T (sym (n.same b)) w) y))
-          | inr q ↦ omega arith
-        ]
+    apart-turn e n = record {
+      apart = λ a b h m l. elim (turn_cases t b h) [
+        | inl v ↦ n.apart a b v m l
+        | inr q ↦ λ x.
+            let u : T (has left' a) = turn-above t a m (omega arith) in
+            let y : T (matches c (name_of names a) name) = rw (named, ← q) x in
+            subst T (sym taken ∙ e)
+            (at-any 32 (λ a. has left' a && matches c (name_of names a) name) a (has-lt 32 set a bound m) (and_both (has left' a) (matches c (name_of names a) name) u y))
       ];
     }
 
     pub apart-found : r ≡ true → true ≡ repeated c set names
     unfolding any_of
     apart-found e =
-        let (b, l, h) = any_at 32 (λ a. has before a && matches c (name_of names a) name) (subst T (sym e ∙ taken) tt) in
-        let w : T (has visited b) = subst T (n.same b) (and_left (has before b) (matches c (name_of names b) name) h) in
-        let x : T (alike s b) = subst T (match_sym c (name_of names b) (name_of names s)) (rw (← named) (and_right (has before b) (matches c (name_of names b) name) h)) in
-        sym (is_true (repeated c set names) (found set s b t.below (t.lower b w) t.member (n.within b w) x))
+        let (a, l, b) = any_at 32 (λ a. has left' a && matches c (name_of names a) name) (subst T (sym e ∙ taken) tt) in
+        let u : T (has left' a) = and_left (has left' a) (matches c (name_of names a) name) b in
+        let x : T (alike a s) = rw (← named) (and_right (has left' a) (matches c (name_of names a) name) b) in
+        sym (is_true (repeated c set names) (found set a s l (t.higher a u) (t.inside a u) t.member x))
 
 -- Where no two names are the same when the case of letters is ignored, no two are equal.
 pub exact_none : (names : List (List ℕ)) (set : ℕ) → repeated Folded set names ≡ false → repeated Exact set names ≡ false

@@ -37,17 +37,17 @@ fn is_taken(spelling: Spelling, signals: u32, names: &[&[u8]], name: &[u8]) -> b
     false
 }
 
-// Tells whether the names of two signals match in a spelling: compares each with those of lower number.
+// Tells whether the names of two signals match in a spelling: compares each with those of higher number.
 fn is_repeated(spelling: Spelling, signals: u32, names: &[&[u8]]) -> bool
     requires { Named signals (texts names.now) }
     ensures { result ≡ repeated spelling signals (texts names.now) }
 {
-    let mut before = 0;
+    let mut left = signals;
     for s in sets::members(signals) {
-        if is_taken(spelling, before, names, names[s]) {
+        left = sets::rest(left);
+        if is_taken(spelling, left, names, names[s]) {
             return true;
         }
-        before = sets::insert(before, s);
     }
     false
 }

@@ -5,7 +5,7 @@ use Prim.Native.Nat.{ℕ, ◌+◌, ◌*◌, ◌/◌, ◌^◌, ◌<◌}
 use lib.ListN.{length}
 use Rattle.std.specs.Prelude.{Option, Result, Ok, Err}
 use Rattle.theory.specs.declared.Automaton.{Automaton}
-use Rattle.theory.specs.declared.Refusal.{Refusal}
+use Rattle.theory.specs.Refusals.{Refusal}
 use Rattle.theory.specs.Checks.{first, place_checks}
 use Rattle.table.specs.Cells.{stepless}
 use Rattle.table.specs.Contract.{follow_reply, own_reply}

@@ -1,7 +1,7 @@
 -- What the calls on two tables in bytes give: the replies and buffers of compatibility and refinement, on the tables that the bytes hold.
 use Rattle.std.specs.Prelude.{Bool, List, ℕ, Result}
 use Rattle.theory.specs.declared.Automaton.{Automaton}
-use Rattle.theory.specs.declared.Refusal.{Refusal}
+use Rattle.theory.specs.Refusals.{Refusal}
 use Rattle.compatibility.specs.declared.Compatibility.{Compatibility}
 use Rattle.compatibility.specs.Contract.{compatibility_reply, compatibility_flags}
 use Rattle.refinement.specs.Contract.{refinement_reply, refinement_marks}

@@ -7,8 +7,9 @@ use native.Mathlib.Numerals.{add-one}
 use native.Mathlib.Omega.{arith}
 use lib.Dec.{eqb, ltb}
 use Rattle.std.specs.Prelude.{count_by, ◌==◌}
-use Rattle.std.proofs.lemmas.List.Sums.{sum_by-cons}
-use lib.ListN.{length, get_or, set, replicate, length-map, length-append}
+use Rattle.std.specs.Int.{from_bool}
+use Rattle.std.proofs.lemmas.List.Sums.{sum_by-cons, count_by_more_yes, count_by_more_no, count_by-le-length}
+use lib.ListN.{length, get_or, take, set, replicate, length-map, length-append, length-take}
 use borrow.Author.Tests.{lt-ltb, le-ltb}
 use Rattle.theory.proofs.Filled.{any_default}
 use Rattle.text.specs.declared.Clash.{Clash}
@@ -41,6 +42,15 @@ lines-count (x ∷ s) = let (f, fs, e) = split-some 10 s in
         → length (cond b ([] ∷ f ∷ fs) (onto x (f ∷ fs))) ≡ cond b 1 0 + count_by (λ x. x == 10) s + 1
     go true f fs h = omega arith
     go false f fs h = omega arith
+
+-- One more byte, as code counts it.
+pub count-more : (s : List ℕ) (i n d : ℕ) → i < length s → d ≡ from_bool (eqb (get_or s i 0) 10) → n ≤ i → n ≡ count_by (λ x. x == 10) (take i s)
+    → (n + d ≤ i + 1) × (n + d ≡ count_by (λ x. x == 10) (take (i + 1) s))
+count-more s i n d h e few same = go (eqb (get_or s i 0) 10) refl e
+  where
+    go : (b : Bool) → eqb (get_or s i 0) 10 ≡ b → d ≡ from_bool b → (n + d ≤ i + 1) × (n + d ≡ count_by (λ x. x == 10) (take (i + 1) s))
+    go true f g = (omega (arith, g), omega (arith, g, same, count_by_more_yes (λ x. x == 10) s i 0 h f))
+    go false f g = (omega (arith, g), omega (arith, g, same, count_by_more_no (λ x. x == 10) s i 0 h f))
 
 -- ---- clashes
 

@@ -49,7 +49,9 @@ fn name_alone_in<'a>(
 }
 
 // Looks the name up in two texts that are read together: the part of the module's or the plan's text where it was first declared; or the rule that
-// the lookup breaks. It reads into cells of its own, enough for any table, so that 10 never applies.
+// the lookup breaks. It reads into cells of its own, enough for any table, so that 10 never applies. It is never inlined, or a caller of `name` and
+// `number` would have the cells twice on its stack.
+#[inline(never)]
 fn lookup<'a>(m: &'a [u8], p: &'a [u8], spelling: Spelling, signal: usize) -> Result<&'a [u8], Rule>
     ensures { result ≡ name_reply m.entry.ref_ptr p.entry.ref_ptr (read_both spelling ample m.now ample p.now) signal }
 {
@@ -59,6 +61,7 @@ fn lookup<'a>(m: &'a [u8], p: &'a [u8], spelling: Spelling, signal: usize) -> Re
 }
 
 // Looks the name up in a text that is read alone, into cells of its own too.
+#[inline(never)]
 fn lookup_alone<'a>(m: &'a [u8], spelling: Spelling, signal: usize) -> Result<&'a [u8], Rule>
     ensures { result ≡ name_alone_reply m.entry.ref_ptr (read_alone spelling ample m.now) signal }
 {

@@ -7,7 +7,7 @@ use native.Mathlib.Omega.{arith}
 use lib.Dec.{ltb, nltb→le, not_T}
 use lib.ListN.{length, length-append}
 use Rattle.std.specs.Prelude.{Result, Ok, Err}
-use Rattle.theory.specs.declared.Refusal.{Refusal}
+use Rattle.theory.specs.Refusals.{Refusal}
 use Rattle.theory.specs.Table.{Table, synthesis, controller, kept_count, step_count, end_count}
 use Rattle.theory.specs.Checks.{first, unless_refused, synthesis_checks, table_checks}
 use Rattle.theory.proofs.Checks.{passed_first, first_part}

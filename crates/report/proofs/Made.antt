@@ -7,7 +7,7 @@ use Prim.Native.Nat.{ℕ, ◌*◌}
 use lib.ListN.{length}
 use Rattle.std.specs.Prelude.{Result, Ok, Err}
 use Rattle.theory.specs.declared.Automaton.{Automaton}
-use Rattle.theory.specs.declared.Refusal.{Refusal}
+use Rattle.theory.specs.Refusals.{Refusal}
 use Rattle.theory.specs.Table.{Table, table, cells_of, composition, synthesis, controller, kept_count, step_count, end_count}
 use Rattle.theory.specs.Checks.{first, unless_refused, synthesis_checks}
 use Rattle.theory.proofs.Bounded.{length-tabulate}

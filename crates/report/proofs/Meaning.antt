@@ -10,7 +10,7 @@ use lib.Dec.{T}
 use lib.ListN.{length, get_or, drop, replicate}
 use borrow.Author.Tests.{ne_eqb}
 use Rattle.std.specs.Prelude.{Result, Ok, Err}
-use Rattle.theory.specs.declared.Refusal.{Refusal}
+use Rattle.theory.specs.Refusals.{Refusal}
 use Rattle.theory.specs.Numbered.{interface, reached}
 use Rattle.theory.specs.Reachability.{End}
 use Rattle.theory.specs.Table.{Table, automaton, mirror_table, cells_of, composition, synthesis, controller, kept_count, step_count, is_end, end_count}

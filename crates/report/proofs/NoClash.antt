@@ -11,7 +11,7 @@ use lib.Dec.{T, eqb}
 use lib.ListN.{length, get_or, get_or-eq_default}
 use borrow.Author.Tests.{eq-eqb}
 use Rattle.std.specs.Prelude.{Err}
-use Rattle.theory.specs.declared.Refusal.{Refusal}
+use Rattle.theory.specs.Refusals.{Refusal}
 use Rattle.theory.specs.Table.{Table}
 use Rattle.theory.specs.Checks.{Check, refuse_at, first, Passes, declared, table_checks}
 use Rattle.theory.proofs.Bounded.{any_at, at-any, get_d_tabulate}

@@ -6,7 +6,7 @@ use native.Mathlib.Omega.{arith}
 use lib.ListN.{length, take, replicate}
 use Rattle.std.specs.Prelude.{Result, Ok, Err, min}
 use Rattle.theory.specs.declared.Automaton.{Automaton}
-use Rattle.theory.specs.declared.Refusal.{Refusal}
+use Rattle.theory.specs.Refusals.{Refusal}
 use Rattle.theory.specs.Table.{table}
 use Rattle.theory.specs.Checks.{unless_refused}
 use Rattle.text.specs.declared.TextRefusal.{TextRefusal}

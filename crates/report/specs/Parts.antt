@@ -1,7 +1,7 @@
 -- What the parts of the report answer, each for all arguments.
 use Rattle.std.specs.Prelude.{◌≡◌, Bool, true, false, Result, Ok, Err, List, ℕ, ◌*◌, ◌≤◌, length}
 use Rattle.theory.specs.declared.Automaton.{Automaton}
-use Rattle.theory.specs.declared.Refusal.{Refusal}
+use Rattle.theory.specs.Refusals.{Refusal}
 use Rattle.theory.specs.Table.{Table, table, synthesis, kept_count}
 use Rattle.theory.specs.Checks.{first, unless_refused}
 use Rattle.text.specs.declared.TextRefusal.{TextRefusal}

@@ -1,7 +1,7 @@
 -- What the program prints for two texts, and what is left in the buffers that it lends (01, "The program and one full run"). m is the
 -- module's text, p the plan's.
 use Rattle.std.specs.Prelude.{cond, List, [], ◌++◌, ℕ, ◌*◌, ◌/◌, min, length, replicate, Result}
-use Rattle.theory.specs.declared.Refusal.{Refusal}
+use Rattle.theory.specs.Refusals.{Refusal}
 use Rattle.theory.specs.Table.{Table, Composition, synthesis, controller, kept_count, step_count, end_count}
 use Rattle.theory.specs.Checks.{Check, first, unless_refused, synthesis_checks}
 use Rattle.text.specs.declared.Spelling.TheVariants.{Folded}

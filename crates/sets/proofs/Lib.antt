@@ -1,3 +1,4 @@
 pub mod Membership
 pub mod SetOf
+pub mod Steps
 pub mod Visit

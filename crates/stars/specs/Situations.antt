@@ -1,7 +1,7 @@
 -- Document 01, "Situations to try": the starred ten as rows of one table, with what each must give.
 use Rattle.std.specs.Prelude.{Bool, true, false, ◌&&◌, cond, List, [], ◌∷◌, map, ℕ, zero, suc, ◌+◌, ◌*◌, ◌/◌, ◌%◌, ◌^◌, eqb}
 use Rattle.std.proofs.Math.Option.{Option, none, some}
-use Rattle.theory.specs.declared.Refusal.{Refusal}
+use Rattle.theory.specs.Refusals.{Refusal}
 use Rattle.theory.specs.Bounded.{tabulate}
 use Rattle.theory.specs.Rules.{rule_number}
 use Rattle.theory.specs.Table.{header, Table, table, Composition, automaton, composition, synthesis, controller, refinement, kept_count, step_count, end_count}

@@ -1,6 +1,6 @@
 -- Laws of any list of checks: it is stopped by a refusal, or goes on to others.
 use Rattle.std.proofs.Common.{◌≡◌, ℕ, Bool, true, false, List, ◌∷◌, ◌++◌, sym, ◌∙◌}
-use Rattle.theory.specs.declared.Refusal.{Refusal}
+use Rattle.theory.specs.Refusals.{Refusal}
 use Rattle.theory.specs.declared.Rule.{Rule}
 use Rattle.std.specs.Prelude.{None, Result, Ok, Err}
 use Rattle.theory.specs.Checks.{Check, refusal, unplaced, first}

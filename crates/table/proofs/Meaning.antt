@@ -1,7 +1,7 @@
 -- What a caller may conclude from a refusal of judge, mirror or follower (02, S-2): it says where, for all arguments.
 use Rattle.std.proofs.Common.{◌≡◌, ℕ, T, [], ◌∷◌, refl}
 use Rattle.std.proofs.Math.Option as math
-use Rattle.theory.specs.declared.Refusal.{Refusal}
+use Rattle.theory.specs.Refusals.{Refusal}
 use Rattle.std.specs.Prelude.{Err, is_ok}
 use Rattle.theory.specs.Table.{Table, automaton}
 use Rattle.theory.specs.Checks.{first, table_checks, monitor_checks}

@@ -2,7 +2,7 @@
 use Rattle.std.proofs.Common.{◌≡◌, ℕ, ◌+◌, ◌*◌, ◌^◌, ◌<◌, Bool, true, false, cond, List, length, get_or, sym, refl, ap, ◌∙◌, arith, lt-ltb}
 use lib.ListN.{length-replicate}
 use Rattle.theory.specs.declared.Automaton.{Automaton}
-use Rattle.theory.specs.declared.Refusal.{Refusal}
+use Rattle.theory.specs.Refusals.{Refusal}
 use Rattle.std.specs.Prelude.{Option, Result, Ok, Err}
 use Rattle.theory.specs.Table.{Table, table, decode}
 use Rattle.theory.specs.Checks.{Place, at_cell, first, refusal, refuse_at, stray, place_checks, monitor_checks, unless_refused}

@@ -1,7 +1,7 @@
 -- The replies of the checks of two automata: 9 and 10.
 use Rattle.std.proofs.Common.{◌≡◌, ℕ, ◌<◌, ◌≤◌, Bool, true, false, List, sym, ◌∙◌, le-ltb, lt-ltb}
 use Rattle.theory.specs.declared.Automaton.{Automaton}
-use Rattle.theory.specs.declared.Refusal.{Refusal}
+use Rattle.theory.specs.Refusals.{Refusal}
 use Rattle.std.specs.Prelude.{None, Result, Ok, Err}
 use Rattle.theory.specs.Table.{table}
 use Rattle.theory.specs.Checks.{refusal, first, each_table, size_checks}

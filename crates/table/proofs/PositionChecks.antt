@@ -2,7 +2,7 @@
 use Rattle.std.proofs.Common.{◌≡◌, ℕ, ◌<◌, ◌≤◌, Bool, true, false, [], ◌∷◌, sym, ap, ◌∙◌, le-leb}
 use borrow.Author.Tests.{lt-leb}
 use Rattle.theory.specs.declared.Automaton.{Automaton}
-use Rattle.theory.specs.declared.Refusal.{Refusal}
+use Rattle.theory.specs.Refusals.{Refusal}
 use Rattle.std.specs.Prelude.{None, Result, Ok, Err}
 use Rattle.theory.specs.Table.{Table, member, declared_set}
 use Rattle.theory.specs.Checks.{first, refusal, declared, check11, check12, shape_checks, place_checks}

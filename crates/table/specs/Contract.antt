@@ -2,7 +2,7 @@
 use Rattle.std.specs.Prelude.{ℕ, cond, Option, Some, None, Result, Ok, Err}
 use Rattle.std.proofs.Math.Option as math
 use Rattle.theory.specs.declared.Automaton.{Automaton}
-use Rattle.theory.specs.declared.Refusal.{Refusal}
+use Rattle.theory.specs.Refusals.{Refusal}
 use Rattle.theory.specs.Table.{Table, automaton, decode, mirror_header}
 use Rattle.theory.specs.Checks.{first, refusal, at_cell, stray, unless_refused, table_checks, monitor_checks}
 use Rattle.theory.specs.declared.Rule.TheVariants as rule

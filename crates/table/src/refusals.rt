@@ -1,13 +1,13 @@
 // Refusals: every refusal of a call on tables is made here, and turned into plain numbers for C.
 ghost use Rattle.std.specs.Prelude.{◌≡◌, None};
 ghost use Rattle.theory.specs.Checks.{refusal as refusal_of, at_cell, cell_of};
-ghost use Rattle.table.specs.Statuses.{status_nowhere, status_of, accepted_status};
+ghost use Rattle.table.specs.Statuses.{status_nowhere, numbered_status, status_of, accepted_status};
 
 use crate::Status;
 use theory::{Location, Refusal, Rule};
 
 // Makes a refusal with its location. Every refusal of a call on tables is made here.
-pub fn at(rule: Rule, table: u32, location: Option<Location>) -> Refusal
+pub fn at<R>(rule: R, table: u32, location: Option<Location>) -> Refusal<R>
     ensures { result ≡ refusal_of rule table location }
 {
     Refusal {
@@ -17,8 +17,8 @@ pub fn at(rule: Rule, table: u32, location: Option<Location>) -> Refusal
     }
 }
 
-// Makes a refusal that names no cell: by a rule whose number is from 7 on (document 02, S-2).
-pub fn refusal(rule: Rule, table: u32) -> Refusal
+// Makes a refusal that names no cell: by a rule whose number is from 7 on (document 02, S-2), or by a number of the caller's own.
+pub fn refusal<R>(rule: R, table: u32) -> Refusal<R>
     ensures { result ≡ refusal_of rule table None }
 {
     at(rule, table, None)
@@ -62,19 +62,27 @@ pub fn accepted() -> Status
     status_nowhere(0, 0)
 }
 
-impl From<Refusal> for Status {
-    ghost from_gives = { λ r s. s ≡ status_of r };
+impl From<Refusal<u32>> for Status {
+    ghost from_gives = { λ r s. s ≡ numbered_status r };
 
-    fn from(why: Refusal) -> Status {
+    fn from(why: Refusal<u32>) -> Status {
         match why.location {
             Some(Location { state, action }) => Status {
-                number: why.rule.number(),
+                number: why.rule,
                 table: why.table,
                 placed: true,
                 state,
                 action,
             },
-            None => status_nowhere(why.rule.number(), why.table),
+            None => status_nowhere(why.rule, why.table),
         }
+    }
+}
+
+impl From<Refusal> for Status {
+    ghost from_gives = { λ r s. s ≡ status_of r };
+
+    fn from(why: Refusal) -> Status {
+        Status::from(at(why.rule.number(), why.table, why.location))
     }
 }

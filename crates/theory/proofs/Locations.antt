@@ -10,7 +10,7 @@ use native.Mathlib.Nat.{div-add-mod'}
 use lib.Arith.{digits_lt, digits_mod}
 use lib.Dec.{T, eqb, ltb, leb, ltb→lt, leb→le, T_not, not_T}
 use borrow.Author.Tests.{lt-ltb, le-leb, eq-eqb, ne_eqb}
-use Rattle.theory.specs.declared.Refusal.{Refusal}
+use Rattle.theory.specs.Refusals.{Refusal}
 use Rattle.std.specs.Prelude.{None, Some, Result, Ok, Err}
 use Rattle.std.specs.Result.{result_and}
 use Rattle.theory.specs.Bounded.{any, lowest}

@@ -1,7 +1,7 @@
 -- Where a refusal says that a table is at fault (02, S-2), said of cells by state and signal, without the order in which they are stored.
 use Rattle.std.specs.Prelude.{◌≡◌, ◌⊎◌, List, [], ◌∷◌, ℕ, zero, suc, ◌<◌, ◌≤◌, T, None}
 use Rattle.std.proofs.Math.Option.{Option, none, some}
-use Rattle.theory.specs.declared.Refusal.{Refusal}
+use Rattle.theory.specs.Refusals.{Refusal}
 use Rattle.theory.specs.Table.{Table, cell_at}
 use Rattle.theory.specs.Checks.{Place, at_cell, declared}
 use Rattle.theory.specs.Rules.{rule_number}

@@ -5,7 +5,7 @@ use Prim.Native.Nat.{ℕ, ◌≤◌}
 use native.Mathlib.Omega.{arith}
 use Rattle.std.specs.Prelude.{Result, Ok, Err, is_ok}
 use lib.ListN.{length, take}
-use Rattle.theory.specs.declared.Refusal.{Refusal}
+use Rattle.theory.specs.Refusals.{Refusal}
 use Rattle.theory.specs.Table.{Table}
 use Rattle.theory.specs.Checks.{first, unless_refused, table_checks}
 use Rattle.theory.specs.Locations.{LocatedIn}

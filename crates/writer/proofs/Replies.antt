@@ -9,7 +9,7 @@ use lib.Dec.{ltb}
 use Rattle.std.specs.Prelude.{None, Result, Ok, Err}
 use lib.ListN.{length}
 use borrow.Author.Tests.{lt-ltb, le-ltb}
-use Rattle.theory.specs.declared.Refusal.{Refusal}
+use Rattle.theory.specs.Refusals.{Refusal}
 use Rattle.theory.specs.Table.{declared_set, Table}
 use Rattle.theory.specs.Checks.{first, unless_refused, table_checks, refusal}
 use Rattle.theory.specs.Valid.{Valid}

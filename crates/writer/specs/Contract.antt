@@ -1,6 +1,6 @@
 -- What the writer replies, for all arguments, and what its parts do.
 use Rattle.std.specs.Prelude.{List, [], ◌∷◌, ◌++◌, ℕ, length, drop, Result, Ok, Err}
-use Rattle.theory.specs.declared.Refusal.{Refusal}
+use Rattle.theory.specs.Refusals.{Refusal}
 use Rattle.theory.specs.Table.{Table}
 use Rattle.theory.specs.Checks.{Check, unplaced, first, unless_refused, table_checks}
 use Rattle.text.specs.Writing.{whole_text, text_length, too_long, writer_checks}
